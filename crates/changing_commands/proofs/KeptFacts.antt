@@ -15,7 +15,7 @@ use Rattle.sealed_log.specs.declared.log.SealedLog.{SealedLog}
 use Rattle.sealed_log.specs.declared.through.Through.{Through}
 use Rattle.sealed_log.proofs.SealFacts.{length-sealed_line}
 use Rattle.sealed_log.proofs.ToldFacts.{told_nothing}
-use Rattle.journal.specs.Forms.{HasForms}
+use Rattle.office_policy.specs.EventForms.{HasForms}
 use Rattle.journal.specs.Journal.{IsEntry, Says}
 use Rattle.journal.specs.Lines.{happened, text_of}
 use Rattle.journal.proofs.Lengths.{founding_entry}

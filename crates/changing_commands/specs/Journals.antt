@@ -12,7 +12,7 @@ use Rattle.journal.specs.Journal.{Says}
 use Rattle.journal.specs.Lines.{happened, text_of}
 use Rattle.office_policy.specs.Meaning.{Meaning}
 use Rattle.office_desk.specs.Meant.{meaning_over}
-use Rattle.journal.specs.Forms.{HasForms}
+use Rattle.office_policy.specs.EventForms.{HasForms}
 use Rattle.journal.specs.Journals.{IsSettled, journaled}
 use Rattle.journal.specs.Logs.{in_log}
 use Rattle.journal.specs.declared.journaled.Journaled.{Journaled}

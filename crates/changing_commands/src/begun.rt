@@ -5,7 +5,7 @@ ghost use Rattle.std.specs.Prelude.{string_bytes};
 ghost use Rattle.sealed_log.specs.Faults.{IsLater};
 ghost use Rattle.sealed_log.specs.Log.{bodies_of};
 ghost use Rattle.sealed_log.specs.Sealed.{IsBody};
-ghost use Rattle.journal.specs.Forms.{HasForms};
+ghost use Rattle.office_policy.specs.EventForms.{HasForms};
 ghost use Rattle.office_policy.specs.Formed.{IsDigest, IsWord};
 ghost use Rattle.changing_commands.specs.Foundings.{founding_event};
 ghost use Rattle.changing_commands.specs.Journals.{line_of, IsBegunBy, IsUnbegun};

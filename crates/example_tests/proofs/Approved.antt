@@ -2,6 +2,8 @@
 use Rattle.std.proofs.Common.{◌≡◌, ◌≢◌, ◌∙◌, ◌≤◌, ◌<◌, ℕ, zero, suc, List, [], ◌∷◌, ◌++◌, drop, true, false, Option, Some, None, length, slice_index_or, refl, sym, ap, subst, arith, length-append}
 use Rattle.std.specs.List.{AllPairs, Contains}
 use Rattle.profile_text.specs.Digest.{digest_of}
+use Rattle.review_policy.specs.declared.act.ProfileView.TheVariants.{Fetch}
+use Rattle.review_policy.specs.declared.act.RevisionAct.TheVariants.{Issue}
 use Rattle.review_policy.specs.declared.ask.Ask.TheVariants as ask
 use Rattle.review_policy.specs.declared.ask.ProfileName.{ProfileName}
 use Rattle.review_policy.specs.declared.denial.Need.{Need}
@@ -83,7 +85,7 @@ two_approve issuer no_author = record {
   issuer_no_author = no_author;
 }
 
-pub was_approved : WasApproved (issues 1 ∷ approved) (ask.Fetch web) (digest_of text) text 1
+pub was_approved : WasApproved (issues 1 ∷ approved) (ask.SeeProfile Fetch web) (digest_of text) text 1
 was_approved = record {
   profile = web;
   asked = refl;
@@ -100,7 +102,7 @@ is_approved name is = subst (λ (name : List ℕ). IsApproved approved name web 
 
 -- ---- what isn't approved
 
-pub by_no_author : (name : List ℕ) (p : ProfileName) (n : ℕ) → name ≡ ann → ask.Issue web 1 ≡ ask.Issue p n → is_author approved p name ≡ false → ⊥
+pub by_no_author : (name : List ℕ) (p : ProfileName) (n : ℕ) → name ≡ ann → ask.ActOnRevision Issue web 1 ≡ ask.ActOnRevision Issue p n → is_author approved p name ≡ false → ⊥
 by_no_author name p n is asked none =
     let same : web ≡ p = cc in
     let k : true ≡ false = ap (λ (q : ProfileName). is_author approved q ann) same ∙ ap (is_author approved p) (sym is) ∙ none in
@@ -134,7 +136,7 @@ text_in None = []
 text_in (Some submission) = submission.text
 
 -- of that revision another text is handed in nowhere
-pub never_other : (since before : History) (issuer bytes author : List ℕ) (p : ProfileName) → ask.Fetch web ≡ ask.Fetch p → issues 1 ∷ approved ≡ since ++ issued issuer p 1 ∷ before
+pub never_other : (since before : History) (issuer bytes author : List ℕ) (p : ProfileName) → ask.SeeProfile Fetch web ≡ ask.SeeProfile Fetch p → issues 1 ∷ approved ≡ since ++ issued issuer p 1 ∷ before
     → submission_of before p 1 ≡ Some (record { author = author; text = bytes }) → text ≡ bytes
 never_other since before issuer bytes author p asked is submitted =
     let same : web ≡ p = cc in

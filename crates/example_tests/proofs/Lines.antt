@@ -7,7 +7,7 @@ use Rattle.sealed_log.specs.Told.{told}
 use Rattle.sealed_log.proofs.ToldFacts.{told_text}
 use Rattle.office_policy.specs.History.{History}
 use Rattle.office_policy.specs.Lawful.{IsLawfulHistory}
-use Rattle.journal.specs.Forms.{HasForms}
+use Rattle.office_policy.specs.EventForms.{HasForms}
 use Rattle.journal.specs.Journal.{IsEntry, Says}
 use Rattle.journal.specs.Lines.{Line, happened, done, text_of}
 use Rattle.journal.proofs.JournalFacts.{bodies_of_says, says_one}

@@ -5,7 +5,7 @@ use Rattle.std.specs.declared.alloc.Global.{Global}
 use Rattle.review_policy.specs.declared.fault.Fault.{Fault}
 use Rattle.review_policy.specs.declared.fault.Fault.TheVariants as faults
 use Rattle.office_tables.specs.Tables.{Tables}
-use Rattle.office_policy.specs.History.{Event, founded, enrolled, submitted, voted, issued, withdrawn, adopted, held, released}
+use Rattle.office_policy.specs.History.{Event, founded, enrolled, submitted, voted, issued, withdrawn, adopted, on_profile}
 use Rattle.office_policy.specs.Handled.{HasRisen}
 use Rattle.office_policy.specs.Judging.{LeavesAll}
 use Rattle.office_policy.specs.Meaning.{Meaning, no_entry}
@@ -34,8 +34,7 @@ put_shown t (voted c p n d a) w all shows = record { users = all.users; revision
 put_shown t (issued c p n) w all shows = record { users = all.users; revisions = shows; votes = all.votes; baselines = all.baselines; holds = all.holds }
 put_shown t (withdrawn c p n) w all shows = record { users = all.users; revisions = shows; votes = all.votes; baselines = all.baselines; holds = all.holds }
 put_shown t (adopted c p n) w all shows = record { users = all.users; revisions = all.revisions; votes = all.votes; baselines = shows; holds = all.holds }
-put_shown t (held c p) w all shows = record { users = all.users; revisions = all.revisions; votes = all.votes; baselines = all.baselines; holds = shows }
-put_shown t (released c p) w all shows = record { users = all.users; revisions = all.revisions; votes = all.votes; baselines = all.baselines; holds = shows }
+put_shown t (on_profile c act p) w all shows = record { users = all.users; revisions = all.revisions; votes = all.votes; baselines = all.baselines; holds = shows }
 
 -- and where all are shown it is
 writer_shown : (t : Tables) (e : Event) (w : Writers) → ShowsWriters t (with_writer e w) → Shows t e
@@ -46,8 +45,7 @@ writer_shown t (voted c p n d a) w all = all.votes
 writer_shown t (issued c p n) w all = all.revisions
 writer_shown t (withdrawn c p n) w all = all.revisions
 writer_shown t (adopted c p n) w all = all.baselines
-writer_shown t (held c p) w all = all.holds
-writer_shown t (released c p) w all = all.holds
+writer_shown t (on_profile c act p) w all = all.holds
 
 -- ---- one question after another
 

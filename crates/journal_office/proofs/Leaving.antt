@@ -6,7 +6,7 @@ use Rattle.sealed_log.specs.Told.{HasNoOther, told}
 use Rattle.sealed_log.proofs.ToldFacts.{told_after_both, told_after_crash, told_text}
 use Rattle.office_policy.specs.History.{Event, History}
 use Rattle.office_policy.specs.Lawful.{IsAllowed}
-use Rattle.journal.specs.Forms.{HasForms}
+use Rattle.office_policy.specs.EventForms.{HasForms}
 use Rattle.journal.specs.Journal.{IsJournalOf, Says}
 use Rattle.journal.specs.Lines.{done, happened, strike, text_of}
 use Rattle.journal.proofs.JournalFacts.{bodies_of_says}

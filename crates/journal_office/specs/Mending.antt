@@ -17,7 +17,7 @@ use Rattle.office_policy.specs.ShowsEvent.{Shows}
 use Rattle.office_policy.specs.TablesOf.{tables_of}
 use Rattle.office_tables.specs.Tables.{Tables}
 use Rattle.office_desk.specs.Looking.{IsMetBetween}
-use Rattle.journal.specs.Forms.{HasForms}
+use Rattle.office_policy.specs.EventForms.{HasForms}
 use Rattle.journal.specs.Journal.{EndsWithEvent, Says}
 use Rattle.journal.specs.Lines.{strike, text_of}
 use Rattle.journal.specs.Begun.{with_event}

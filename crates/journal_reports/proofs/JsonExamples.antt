@@ -4,7 +4,8 @@ use Rattle.std.specs.Fmt.{digits}
 use Rattle.hex.specs.Hex.{encode_with}
 use Rattle.json.specs.Print.{escape_byte}
 use Rattle.cap_sets.specs.Capability.{names_from}
-use Rattle.office_policy.specs.History.{adopted, held, issued, released, voted, withdrawn}
+use Rattle.review_policy.specs.declared.act.ProfileAct.TheVariants.{Hold, Release}
+use Rattle.office_policy.specs.History.{adopted, issued, voted, withdrawn, on_profile}
 use Rattle.journal_reports.specs.Examples.{adoption_json, digest, enrolment, enrolment_json, founding, founding_json, hold_json, issue_json, release_json, row, vote_json, web, withdrawal_json}
 use Rattle.journal_reports.specs.Json.{json_of}
 
@@ -32,10 +33,10 @@ pub adoption_is : json_of 7 (adopted (codes "sue") web 1) (Some row) ≡ adoptio
 unfolding json_of escape_byte names_from encode_with digits
 adoption_is = refl
 
-pub hold_is : json_of 8 (held (codes "sue") web) None ≡ hold_json
+pub hold_is : json_of 8 (on_profile (codes "sue") Hold web) None ≡ hold_json
 unfolding json_of escape_byte names_from encode_with digits
 hold_is = refl
 
-pub release_is : json_of 9 (released (codes "sue") web) None ≡ release_json
+pub release_is : json_of 9 (on_profile (codes "sue") Release web) None ≡ release_json
 unfolding json_of escape_byte names_from encode_with digits
 release_is = refl

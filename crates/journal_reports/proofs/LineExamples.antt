@@ -3,7 +3,8 @@ use Rattle.std.proofs.Common.{◌≡◌, true, false, Some, None, codes, refl}
 use Rattle.std.specs.Fmt.{digits}
 use Rattle.hex.specs.Hex.{encode_with}
 use Rattle.cap_sets.specs.Capability.{names_from}
-use Rattle.office_policy.specs.History.{adopted, founded, held, issued, released, voted, withdrawn}
+use Rattle.review_policy.specs.declared.act.ProfileAct.TheVariants.{Hold, Release}
+use Rattle.office_policy.specs.History.{adopted, founded, issued, voted, withdrawn, on_profile}
 use Rattle.journal_reports.specs.Examples.{digest, enrolment, founding, row, web}
 use Rattle.journal_reports.specs.Lines.{text_of}
 
@@ -39,10 +40,10 @@ pub adoption_is : text_of 7 (adopted (codes "sue") web 1) (Some row) ≡ codes "
 unfolding names_from encode_with digits
 adoption_is = refl
 
-pub hold_is : text_of 8 (held (codes "sue") web) None ≡ codes "8  sue held blue/web\n"
+pub hold_is : text_of 8 (on_profile (codes "sue") Hold web) None ≡ codes "8  sue held blue/web\n"
 unfolding names_from encode_with digits
 hold_is = refl
 
-pub release_is : text_of 9 (released (codes "sue") web) None ≡ codes "9  sue released blue/web\n"
+pub release_is : text_of 9 (on_profile (codes "sue") Release web) None ≡ codes "9  sue released blue/web\n"
 unfolding names_from encode_with digits
 release_is = refl

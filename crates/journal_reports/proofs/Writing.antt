@@ -8,7 +8,7 @@ use Rattle.sqlite.specs.Held.{Held}
 use Rattle.sqlite.specs.Store.{Ghosts}
 use Rattle.review_policy.specs.declared.fault.Fault.{Fault}
 use Rattle.office_tables.specs.declared.row.RevisionRow.{RevisionRow}
-use Rattle.office_policy.specs.History.{Event, History, founded, enrolled, submitted, voted, issued, withdrawn, adopted, held, released}
+use Rattle.office_policy.specs.History.{Event, History}
 use Rattle.office_policy.specs.Handled.{Stands, Survives}
 use Rattle.office_policy.specs.Lawful.{IsFounding, IsLawfulHistory}
 use Rattle.office_policy.specs.Meaning.{Meaning}

@@ -19,7 +19,7 @@ use Rattle.journal_office.specs.Rebuilt.{HasReplayed, IsRefused}
 use Rattle.journal_reports.specs.declared.fault.NoEvidence.{NoEvidence}
 use Rattle.journal_reports.specs.declared.fault.NoEvidence.TheVariants as why
 use Rattle.journal_reports.specs.Lines.{line_of}
-use Rattle.journal_reports.specs.Passing.{doer_of}
+use Rattle.office_policy.specs.Callers.{doer_of}
 
 -- the event is the one that is asked for: that of the line, where one is given, and else the issue
 -- of the revision

@@ -7,11 +7,10 @@ use Rattle.serde_json.specs.Written.{compact_text}
 use Rattle.profile_text.specs.Digest.{digest_of}
 use Rattle.review_sheet.specs.Layout.{ended}
 use Rattle.office_tables.specs.declared.row.RevisionRow.{RevisionRow}
-use Rattle.office_policy.specs.History.{Event, founded, enrolled, submitted, voted, issued}
-use Rattle.office_policy.specs.History.{withdrawn, adopted, held, released}
+use Rattle.office_policy.specs.History.{Event, founded, enrolled, submitted, voted}
+use Rattle.office_policy.specs.History.{on_revision, on_profile}
 use Rattle.office_policy.specs.Revisions.{number_of}
-use Rattle.journal.specs.declared.kind.Kind.TheVariants.{Submit, Issue, Withdraw, Adopt, Hold}
-use Rattle.journal.specs.declared.kind.Kind.TheVariants.{Release}
+use Rattle.journal.specs.declared.kind.Kind.TheVariants.{Submit, ActOnRevision, ActOnProfile}
 use Rattle.journal.specs.Lines.{enrolment_data, founding_data, of_profile, of_revision, vote_data}
 
 -- the digest of a revision, where it is there
@@ -28,14 +27,10 @@ data_of line (submitted caller p text) found =
     of_revision (Some line) Submit caller p (number_of found + 1) (Some (digest_of text))
 data_of line (voted caller p n digest approves) found =
     vote_data (Some line) caller p n digest approves
-data_of line (issued caller p n) found =
-    of_revision (Some line) Issue caller p n (digest_found found)
-data_of line (withdrawn caller p n) found =
-    of_revision (Some line) Withdraw caller p n (digest_found found)
-data_of line (adopted caller p n) found =
-    of_revision (Some line) Adopt caller p n (digest_found found)
-data_of line (held caller p) found = of_profile (Some line) Hold caller p
-data_of line (released caller p) found = of_profile (Some line) Release caller p
+data_of line (on_revision caller act p n) found =
+    of_revision (Some line) (ActOnRevision act) caller p n (digest_found found)
+data_of line (on_profile caller act p) found =
+    of_profile (Some line) (ActOnProfile act) caller p
 
 -- the line
 unfoldable pub json_of : (line : ℕ) → Event → Option RevisionRow → List ℕ

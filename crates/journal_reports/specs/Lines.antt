@@ -4,11 +4,16 @@ use Rattle.std.specs.Prelude.{codes, decimal, take}
 use Rattle.hex.specs.Hex.{encode_lower}
 use Rattle.cap_sets.specs.Capability.{names_of}
 use Rattle.profile_text.specs.Digest.{digest_of}
+use Rattle.review_policy.specs.declared.act.ProfileAct.{ProfileAct}
+use Rattle.review_policy.specs.declared.act.ProfileAct.TheVariants.{Hold, Release}
+use Rattle.review_policy.specs.declared.act.RevisionAct.{RevisionAct}
+use Rattle.review_policy.specs.declared.act.RevisionAct.TheVariants.{Issue, Withdraw, Adopt}
 use Rattle.review_policy.specs.declared.ask.ProfileName.{ProfileName}
 use Rattle.review_sheet.specs.Layout.{ended, spaced}
 use Rattle.office_tables.specs.declared.row.RevisionRow.{RevisionRow}
 use Rattle.office_policy.specs.History.{Event, History, founded, enrolled, submitted, voted}
-use Rattle.office_policy.specs.History.{issued, withdrawn, adopted, held, released}
+use Rattle.office_policy.specs.History.{on_revision as acted_on_revision}
+use Rattle.office_policy.specs.History.{on_profile as acted_on_profile}
 use Rattle.office_policy.specs.Revisions.{last_revision, number_of, revision_of}
 use Rattle.journal.specs.Lines.{role_words}
 use Rattle.journal_reports.specs.Json.{json_of}
@@ -35,6 +40,17 @@ on_profile caller did p = caller ++ codes " " ++ did ++ codes " " ++ p.team ++ c
 abbrev pub on_revision : (caller did : List ℕ) → ProfileName → (number : ℕ) → List ℕ
 on_revision caller did p n = on_profile caller did p ++ (codes " " ++ decimal n)
 
+-- what an act did to a revision
+abbrev pub revision_word : RevisionAct → List ℕ
+revision_word Issue = codes "issued"
+revision_word Withdraw = codes "withdrew"
+revision_word Adopt = codes "adopted"
+
+-- what an act did to a profile
+abbrev pub profile_word : ProfileAct → List ℕ
+profile_word Hold = codes "held"
+profile_word Release = codes "released"
+
 -- what a vote did
 abbrev pub voted_word : Bool → List ℕ
 voted_word true = codes "approved"
@@ -47,11 +63,8 @@ looked_up (founded name team digest listed) h = None
 looked_up (enrolled caller name team roles digest) h = None
 looked_up (submitted caller p text) h = last_revision h p
 looked_up (voted caller p n digest approves) h = revision_of h p n
-looked_up (issued caller p n) h = revision_of h p n
-looked_up (withdrawn caller p n) h = revision_of h p n
-looked_up (adopted caller p n) h = revision_of h p n
-looked_up (held caller p) h = None
-looked_up (released caller p) h = None
+looked_up (acted_on_revision caller act p n) h = revision_of h p n
+looked_up (acted_on_profile caller act p) h = None
 
 -- who did what, by what was looked up: a submission gets the number behind the last revision's
 abbrev pub deed : Event → Option RevisionRow → List ℕ
@@ -64,11 +77,9 @@ deed (submitted caller p text) found =
     on_revision caller (codes "submitted") p (number_of found + 1) ++ short_digest (digest_of text)
 deed (voted caller p n digest approves) found =
     on_revision caller (voted_word approves) p n ++ digest_in found
-deed (issued caller p n) found = on_revision caller (codes "issued") p n ++ digest_in found
-deed (withdrawn caller p n) found = on_revision caller (codes "withdrew") p n ++ digest_in found
-deed (adopted caller p n) found = on_revision caller (codes "adopted") p n ++ digest_in found
-deed (held caller p) found = on_profile caller (codes "held") p
-deed (released caller p) found = on_profile caller (codes "released") p
+deed (acted_on_revision caller act p n) found =
+    on_revision caller (revision_word act) p n ++ digest_in found
+deed (acted_on_profile caller act p) found = on_profile caller (profile_word act) p
 
 -- the number of the line in the journal, two spaces, and who did what
 abbrev pub text_of : (line : ℕ) → Event → Option RevisionRow → List ℕ

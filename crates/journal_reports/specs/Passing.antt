@@ -2,8 +2,9 @@
 use Rattle.std.specs.Prelude.{ℕ, List, Bool, true, false, ◌&&◌, Option, Some, None, nat_le}
 use Rattle.std.specs.Str.{bytes_eq}
 use Rattle.review_policy.specs.declared.ask.ProfileName.{ProfileName}
+use Rattle.office_policy.specs.Callers.{doer_of}
 use Rattle.office_policy.specs.History.{Event, founded, enrolled, submitted, voted}
-use Rattle.office_policy.specs.History.{issued, withdrawn, adopted, held, released}
+use Rattle.office_policy.specs.History.{on_revision, on_profile}
 
 -- the profile that an event is about, where it is about one
 abbrev pub profile_of : Event → Option ProfileName
@@ -11,11 +12,8 @@ profile_of (founded name team digest listed) = None
 profile_of (enrolled caller name team roles digest) = None
 profile_of (submitted caller p text) = Some p
 profile_of (voted caller p n digest approves) = Some p
-profile_of (issued caller p n) = Some p
-profile_of (withdrawn caller p n) = Some p
-profile_of (adopted caller p n) = Some p
-profile_of (held caller p) = Some p
-profile_of (released caller p) = Some p
+profile_of (on_revision caller act p n) = Some p
+profile_of (on_profile caller act p) = Some p
 
 -- the team that it names: of the user who is founded or enrolled, or of the profile
 abbrev pub team_of : Event → List ℕ
@@ -23,11 +21,8 @@ team_of (founded name team digest listed) = team
 team_of (enrolled caller name team roles digest) = team
 team_of (submitted caller p text) = p.team
 team_of (voted caller p n digest approves) = p.team
-team_of (issued caller p n) = p.team
-team_of (withdrawn caller p n) = p.team
-team_of (adopted caller p n) = p.team
-team_of (held caller p) = p.team
-team_of (released caller p) = p.team
+team_of (on_revision caller act p n) = p.team
+team_of (on_profile caller act p) = p.team
 
 -- the event names this team, where one is asked for
 abbrev pub is_of_team : Option (List ℕ) → Event → Bool
@@ -42,18 +37,6 @@ is_named profile (Some p) = bytes_eq profile p.profile
 abbrev pub is_about : Option (List ℕ) → Event → Bool
 is_about None e = true
 is_about (Some profile) e = is_named profile (profile_of e)
-
--- who did it: the caller, or who was founded
-abbrev pub doer_of : Event → List ℕ
-doer_of (founded name team digest listed) = name
-doer_of (enrolled caller name team roles digest) = caller
-doer_of (submitted caller p text) = caller
-doer_of (voted caller p n digest approves) = caller
-doer_of (issued caller p n) = caller
-doer_of (withdrawn caller p n) = caller
-doer_of (adopted caller p n) = caller
-doer_of (held caller p) = caller
-doer_of (released caller p) = caller
 
 -- the event was done by this user, where one is asked for
 abbrev pub is_by : Option (List ℕ) → Event → Bool

@@ -1,14 +1,15 @@
 //! Which events are shown.
 
-ghost use Rattle.std.specs.Prelude.{◌≡◌, option_map};
+ghost use Rattle.std.specs.Prelude.{◌≡◌, ℕ, List, option_map};
 ghost use Rattle.office_policy.specs.Happened.{event_meant};
+ghost use Rattle.office_policy.specs.History.{did};
 ghost use Rattle.journal.specs.Told.{placed_meant};
-ghost use Rattle.journal_reports.specs.Passing.{doer_of, is_about, is_asked, is_by, is_named};
+ghost use Rattle.journal_reports.specs.Passing.{is_about, is_asked, is_by, is_named};
 ghost use Rattle.journal_reports.specs.Passing.{is_of_team, passes, profile_of, team_of};
 ghost use Rattle.journal_reports.specs.Struck.{asks_for_all, shows_struck};
 
 use journal::Placed;
-use office_policy::Event;
+use office_policy::{Deed, Event};
 use review_policy::{ProfileName, Word};
 use std::marker::Model;
 
@@ -43,19 +44,40 @@ impl<'a> Model for Filter<'a> {
     } };
 }
 
+// The profile that a deed is about, where it is about one.
+fn profile_of_deed(deed: &Deed) -> Option<&ProfileName>
+    ensures { (caller : List ℕ)
+        → option_map (λ name. name.now) result ≡ profile_of (did caller deed.now) }
+{
+    match deed {
+        Deed::Enrol { .. } => None,
+        Deed::Submit { name, .. }
+        | Deed::Vote { name, .. }
+        | Deed::ActOnRevision { name, .. }
+        | Deed::ActOnProfile { name, .. } => Some(name),
+    }
+}
+
 // The profile that an event is about, where it is about one.
 fn profile_of(event: &Event) -> Option<&ProfileName>
     ensures { option_map (λ name. name.now) result ≡ profile_of (event_meant event.now) }
 {
     match event {
-        Event::Founded { .. } | Event::Enrolled { .. } => None,
-        Event::Submitted { name, .. }
-        | Event::Voted { name, .. }
-        | Event::Issued { name, .. }
-        | Event::Withdrawn { name, .. }
-        | Event::Adopted { name, .. }
-        | Event::Held { name, .. }
-        | Event::Released { name, .. } => Some(name),
+        Event::Founded { .. } => None,
+        Event::Did { deed, .. } => profile_of_deed(deed),
+    }
+}
+
+// The team that a deed names.
+fn team_of_deed(deed: &Deed) -> &Word
+    ensures { (caller : List ℕ) → result.now ≡ team_of (did caller deed.now) }
+{
+    match deed {
+        Deed::Enrol { team, .. } => team,
+        Deed::Submit { name, .. }
+        | Deed::Vote { name, .. }
+        | Deed::ActOnRevision { name, .. }
+        | Deed::ActOnProfile { name, .. } => &name.team,
     }
 }
 
@@ -64,14 +86,8 @@ fn team_of(event: &Event) -> &Word
     ensures { result.now ≡ team_of (event_meant event.now) }
 {
     match event {
-        Event::Founded { team, .. } | Event::Enrolled { team, .. } => team,
-        Event::Submitted { name, .. }
-        | Event::Voted { name, .. }
-        | Event::Issued { name, .. }
-        | Event::Withdrawn { name, .. }
-        | Event::Adopted { name, .. }
-        | Event::Held { name, .. }
-        | Event::Released { name, .. } => &name.team,
+        Event::Founded { team, .. } => team,
+        Event::Did { deed, .. } => team_of_deed(deed),
     }
 }
 
@@ -105,29 +121,12 @@ fn is_about(profile: Option<&Word>, event: &Event) -> bool
     }
 }
 
-/// Who did it: the caller, or who was founded.
-pub(crate) fn doer_of(event: &Event) -> &Word
-    ensures { result.now ≡ doer_of (event_meant event.now) }
-{
-    match event {
-        Event::Founded { user, .. } => user,
-        Event::Enrolled { caller, .. }
-        | Event::Submitted { caller, .. }
-        | Event::Voted { caller, .. }
-        | Event::Issued { caller, .. }
-        | Event::Withdrawn { caller, .. }
-        | Event::Adopted { caller, .. }
-        | Event::Held { caller, .. }
-        | Event::Released { caller, .. } => caller,
-    }
-}
-
 // Whether this user did it, where one is named.
 fn is_by(user: Option<&Word>, event: &Event) -> bool
     ensures { result ≡ is_by (option_map (λ user. user.now) user.entry) (event_meant event.now) }
 {
     match user {
-        Some(user) => user.is(doer_of(event)),
+        Some(user) => user.is(event.doer()),
         None => true,
     }
 }

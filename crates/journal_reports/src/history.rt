@@ -7,7 +7,7 @@ ghost use Rattle.sqlite.specs.State.{HasCleanDisk};
 ghost use Rattle.office_store.specs.Shown.{IsIdle};
 ghost use Rattle.office_policy.specs.Handled.{Stands};
 ghost use Rattle.office_policy.specs.Happened.{event_meant};
-ghost use Rattle.office_policy.specs.History.{Event as TheEvent};
+ghost use Rattle.office_policy.specs.History.{Event as TheEvent, did};
 ghost use Rattle.office_policy.specs.Lawful.{IsFounding};
 ghost use Rattle.office_desk.specs.Meant.{meaning_over};
 ghost use Rattle.journal.specs.Told.{Gives, Place, place, placed_meant, start};
@@ -30,13 +30,33 @@ use crate::struck::struck;
 use journal::Placed;
 use journal_office::{Refused, Replay};
 use office_desk::Office;
-use office_policy::Event;
+use office_policy::{Deed, Event};
 use office_tables::RevisionRow;
 use review_policy::Fault;
 use sqlite::{Alter, Connection};
 use std::alloc::{AllocError, Global};
 use std::io::{BufRead, Write};
 use streams::{Counted, write_whole};
+
+// The revision that the line of a deed looks up, where it does.
+fn look_up_deed<S: Alter>(
+    alloc: Global,
+    office: &mut Office<S>,
+    deed: &Deed,
+) -> Result<Option<RevisionRow>, Fault>
+    ensures { (bytes : Option (List ℕ)) (here : Place) (es : List (ℕ × TheEvent)) (caller : List ℕ)
+        → HasReplayed bytes (meaning_over S.Store) here es office.old
+        → LooksUp bytes (meaning_over S.Store) here es office.old office.new
+        (did caller deed.now) result }
+{
+    match deed {
+        Deed::Enrol { .. } => Ok(None),
+        Deed::Submit { name, .. } => office.last_revision(alloc, name),
+        Deed::Vote { name, revision, .. } => office.revision(alloc, name, *revision),
+        Deed::ActOnRevision { name, revision, .. } => office.revision(alloc, name, *revision),
+        Deed::ActOnProfile { .. } => Ok(None),
+    }
+}
 
 /// The revision that the line of an event looks up, where it does.
 ///
@@ -55,14 +75,7 @@ pub(crate) fn look_up<S: Alter>(
 {
     match event {
         Event::Founded { .. } => Ok(None),
-        Event::Enrolled { .. } => Ok(None),
-        Event::Submitted { name, .. } => office.last_revision(alloc, name),
-        Event::Voted { name, revision, .. } => office.revision(alloc, name, *revision),
-        Event::Issued { name, revision, .. } => office.revision(alloc, name, *revision),
-        Event::Withdrawn { name, revision, .. } => office.revision(alloc, name, *revision),
-        Event::Adopted { name, revision, .. } => office.revision(alloc, name, *revision),
-        Event::Held { .. } => Ok(None),
-        Event::Released { .. } => Ok(None),
+        Event::Did { deed, .. } => look_up_deed(alloc, office, deed),
     }
 }
 

@@ -3,8 +3,8 @@
 ghost use Rattle.std.specs.Prelude.{◌≡◌, IfOk, OnOk, Some, option_map, string_bytes};
 ghost use Rattle.json_tree.specs.Tokens.{Appends, tokens_of};
 ghost use Rattle.office_policy.specs.Happened.{event_meant};
-ghost use Rattle.office_policy.specs.History.{submitted};
-ghost use Rattle.journal.specs.Lines.{of_revision};
+ghost use Rattle.office_policy.specs.History.{did, submitted};
+ghost use Rattle.journal.specs.Lines.{of_revision, vote_data};
 ghost use Rattle.journal_reports.specs.Json.{data_of, digest_found, json_of};
 
 use journal::members::{
@@ -13,7 +13,7 @@ use journal::members::{
 use journal::{Kind, Placed};
 use json_tree::{Writer, written_text};
 use office_judging::number_of;
-use office_policy::Event;
+use office_policy::{Deed, Event};
 use office_tables::RevisionRow;
 use profile_text::digest;
 use review_policy::{ProfileName, Text, Word};
@@ -87,6 +87,75 @@ fn write_submission(
     )
 }
 
+// A vote.
+fn write_cast_vote(
+    out: &mut Writer,
+    alloc: Global,
+    line: u64,
+    caller: &Word,
+    name: &ProfileName,
+    revision: u32,
+    digest: &[u8; 32],
+    approves: bool,
+) -> Result<(), AllocError>
+    ensures { OnOk result (Appends out.old out.new (tokens_of
+        (vote_data (Some line) caller.now name.now revision digest.now approves))) }
+{
+    let number = revision as u64;
+    write_vote(
+        out,
+        alloc,
+        Some(line),
+        caller,
+        name,
+        number,
+        digest,
+        approves,
+    )
+}
+
+// What a user did, by what was looked up.
+fn write_deed(
+    out: &mut Writer,
+    alloc: Global,
+    line: u64,
+    caller: &Word,
+    deed: &Deed,
+    found: &Option<RevisionRow>,
+) -> Result<(), AllocError>
+    ensures { OnOk result (Appends out.old out.new (tokens_of
+        (data_of line (did caller.now deed.now) found.now))) }
+{
+    match deed {
+        Deed::Enrol {
+            user,
+            team,
+            roles,
+            digest,
+        } => write_enrolment(out, alloc, Some(line), caller, user, team, *roles, digest),
+        Deed::Submit { name, text } => {
+            write_submission(out, alloc, line, caller, name, text, found)
+        }
+        Deed::Vote {
+            name,
+            revision,
+            digest,
+            approves,
+        } => write_cast_vote(out, alloc, line, caller, name, *revision, digest, *approves),
+        Deed::ActOnRevision {
+            act,
+            name,
+            revision,
+        } => {
+            let kind = Kind::ActOnRevision(*act);
+            write_found(out, alloc, kind, line, caller, name, *revision, found)
+        }
+        Deed::ActOnProfile { act, name } => {
+            write_on_profile(out, Some(line), Kind::ActOnProfile(*act), caller, name)
+        }
+    }
+}
+
 // Who did what, by what was looked up.
 fn write_event(
     out: &mut Writer,
@@ -105,83 +174,7 @@ fn write_event(
             digest,
             listed,
         } => write_founding(out, alloc, Some(line), user, team, digest, *listed),
-        Event::Enrolled {
-            caller,
-            user,
-            team,
-            roles,
-            digest,
-        } => write_enrolment(out, alloc, Some(line), caller, user, team, *roles, digest),
-        Event::Submitted { caller, name, text } => {
-            write_submission(out, alloc, line, caller, name, text, found)
-        }
-        Event::Voted {
-            caller,
-            name,
-            revision,
-            digest,
-            approves,
-        } => {
-            let number = *revision as u64;
-            write_vote(
-                out,
-                alloc,
-                Some(line),
-                caller,
-                name,
-                number,
-                digest,
-                *approves,
-            )
-        }
-        Event::Issued {
-            caller,
-            name,
-            revision,
-        } => write_found(
-            out,
-            alloc,
-            Kind::Issue,
-            line,
-            caller,
-            name,
-            *revision,
-            found,
-        ),
-        Event::Withdrawn {
-            caller,
-            name,
-            revision,
-        } => write_found(
-            out,
-            alloc,
-            Kind::Withdraw,
-            line,
-            caller,
-            name,
-            *revision,
-            found,
-        ),
-        Event::Adopted {
-            caller,
-            name,
-            revision,
-        } => write_found(
-            out,
-            alloc,
-            Kind::Adopt,
-            line,
-            caller,
-            name,
-            *revision,
-            found,
-        ),
-        Event::Held { caller, name } => {
-            write_on_profile(out, Some(line), Kind::Hold, caller, name)
-        }
-        Event::Released { caller, name } => {
-            write_on_profile(out, Some(line), Kind::Release, caller, name)
-        }
+        Event::Did { caller, deed } => write_deed(out, alloc, line, caller, deed, found),
     }
 }
 

@@ -1,8 +1,9 @@
 //! What holds of lines as people read them, apart from any call.
 
 ghost use Rattle.std.specs.Prelude.{◌≡◌, ◌∷◌, ◌++◌, ℕ, List, [], Some, None, true, false, codes, length};
-ghost use Rattle.office_policy.specs.History.{Event, adopted, enrolled, founded, held, issued};
-ghost use Rattle.office_policy.specs.History.{released, voted, withdrawn};
+ghost use Rattle.review_policy.specs.declared.act.ProfileAct.TheVariants.{Hold, Release};
+ghost use Rattle.office_policy.specs.History.{Event, adopted, enrolled, founded, issued};
+ghost use Rattle.office_policy.specs.History.{voted, withdrawn, on_profile};
 ghost use Rattle.journal_reports.specs.Examples.{adoption_json, digest, each, enrolment};
 ghost use Rattle.journal_reports.specs.Examples.{enrolment_json, founding, founding_json};
 ghost use Rattle.journal_reports.specs.Examples.{hold_json, issue_json, release_json, row};
@@ -34,8 +35,8 @@ pub fn examples_of_lines()
         ≡ codes "6  sue withdrew blue/web 1 (67d596..)\n" }
     ensures adoption { text_of 7 (adopted (codes "sue") web 1) (Some row)
         ≡ codes "7  sue adopted blue/web 1 (67d596..)\n" }
-    ensures hold { text_of 8 (held (codes "sue") web) None ≡ codes "8  sue held blue/web\n" }
-    ensures release { text_of 9 (released (codes "sue") web) None
+    ensures hold { text_of 8 (on_profile (codes "sue") Hold web) None ≡ codes "8  sue held blue/web\n" }
+    ensures release { text_of 9 (on_profile (codes "sue") Release web) None
         ≡ codes "9  sue released blue/web\n" }
 {}
 
@@ -47,8 +48,8 @@ pub fn examples_of_json()
     ensures issue { json_of 15 (issued (codes "iss") web 1) (Some row) ≡ issue_json }
     ensures withdrawal { json_of 6 (withdrawn (codes "sue") web 1) (Some row) ≡ withdrawal_json }
     ensures adoption { json_of 7 (adopted (codes "sue") web 1) (Some row) ≡ adoption_json }
-    ensures hold { json_of 8 (held (codes "sue") web) None ≡ hold_json }
-    ensures release { json_of 9 (released (codes "sue") web) None ≡ release_json }
+    ensures hold { json_of 8 (on_profile (codes "sue") Hold web) None ≡ hold_json }
+    ensures release { json_of 9 (on_profile (codes "sue") Release web) None ≡ release_json }
 {}
 
 /// Which events are shown, and in which form.
@@ -58,7 +59,7 @@ pub fn examples_of_what_is_shown()
     ensures other_team { passes (record each { team = Some (codes "office") }) (2, enrolment)
         ≡ false }
     ensures profile { passes (record each { profile = Some (codes "web") })
-        (8, held (codes "sue") web) ≡ true }
+        (8, on_profile (codes "sue") Hold web) ≡ true }
     ensures no_profile { passes (record each { profile = Some (codes "web") }) (2, enrolment)
         ≡ false }
     ensures user { passes (record each { user = Some (codes "root") }) (2, enrolment) ≡ true }

@@ -7,18 +7,20 @@ ghost use Rattle.cap_sets.specs.Capability.{names_of};
 ghost use Rattle.profile_text.specs.Digest.{digest_of};
 ghost use Rattle.review_sheet.specs.Layout.{Adds, spaced};
 ghost use Rattle.office_policy.specs.Happened.{event_meant};
+ghost use Rattle.office_policy.specs.History.{did};
 ghost use Rattle.office_policy.specs.Revisions.{number_of};
 ghost use Rattle.journal.specs.Lines.{role_words, words_among};
 ghost use Rattle.journal_reports.specs.Lines.{deed, digest_in, each_spaced, on_profile};
-ghost use Rattle.journal_reports.specs.Lines.{on_revision, short_digest, text_of, voted_word};
+ghost use Rattle.journal_reports.specs.Lines.{on_revision, profile_word, revision_word};
+ghost use Rattle.journal_reports.specs.Lines.{short_digest, text_of, voted_word};
 
 use cap_sets::{Caps, Names};
 use journal::Placed;
 use office_judging::number_of;
-use office_policy::Event;
+use office_policy::{Deed, Event};
 use office_tables::RevisionRow;
 use profile_text::digest;
-use review_policy::{ProfileName, Role, Roles, Text, Word};
+use review_policy::{ProfileAct, ProfileName, RevisionAct, Role, Roles, Text, Word};
 use std::alloc::{AllocError, Global};
 
 // Adds an item behind a space.
@@ -237,8 +239,71 @@ fn voted_word(approves: bool) -> &'static str
     if approves { "approved" } else { "rejected" }
 }
 
-// Adds who did what, by what was looked up.
+// What an act did to a revision.
+fn revision_word(act: RevisionAct) -> &'static str
+    ensures { result.now ≡ revision_word act }
+{
+    match act {
+        RevisionAct::Issue => "issued",
+        RevisionAct::Withdraw => "withdrew",
+        RevisionAct::Adopt => "adopted",
+    }
+}
+
+// What an act did to a profile.
+fn profile_word(act: ProfileAct) -> &'static str
+    ensures { result.now ≡ profile_word act }
+{
+    match act {
+        ProfileAct::Hold => "held",
+        ProfileAct::Release => "released",
+    }
+}
+
+// Adds what a user did, by what was looked up.
 fn push_deed(
+    alloc: Global,
+    text: &mut String,
+    caller: &Word,
+    done: &Deed,
+    found: &Option<RevisionRow>,
+) -> Result<(), AllocError>
+    ensures { OnOk result (Adds text.old text.new (deed (did caller.now done.now) found.now)) }
+{
+    match done {
+        Deed::Enrol {
+            user,
+            team,
+            roles,
+            digest,
+        } => push_enrolment(alloc, text, caller, user, team, *roles, digest),
+        Deed::Submit {
+            name,
+            text: document,
+        } => push_submission(alloc, text, caller, name, document, found),
+        Deed::Vote {
+            name,
+            revision,
+            approves,
+            ..
+        } => {
+            let word = voted_word(*approves);
+            push_on_found(alloc, text, caller, word, name, *revision, found)
+        }
+        Deed::ActOnRevision {
+            act,
+            name,
+            revision,
+        } => {
+            let word = revision_word(*act);
+            push_on_found(alloc, text, caller, word, name, *revision, found)
+        }
+        Deed::ActOnProfile { act, name } => push_on_profile(text, caller, profile_word(*act), name),
+    }
+}
+
+// Adds who did what, by what was looked up.
+fn push_event(
     alloc: Global,
     text: &mut String,
     event: &Event,
@@ -253,50 +318,7 @@ fn push_deed(
             listed,
             ..
         } => push_founding(text, user, team, *listed),
-        Event::Enrolled {
-            caller,
-            user,
-            team,
-            roles,
-            digest,
-        } => push_enrolment(alloc, text, caller, user, team, *roles, digest),
-        Event::Submitted {
-            caller,
-            name,
-            text: document,
-        } => push_submission(alloc, text, caller, name, document, found),
-        Event::Voted {
-            caller,
-            name,
-            revision,
-            approves,
-            ..
-        } => push_on_found(
-            alloc,
-            text,
-            caller,
-            voted_word(*approves),
-            name,
-            *revision,
-            found,
-        ),
-        Event::Issued {
-            caller,
-            name,
-            revision,
-        } => push_on_found(alloc, text, caller, "issued", name, *revision, found),
-        Event::Withdrawn {
-            caller,
-            name,
-            revision,
-        } => push_on_found(alloc, text, caller, "withdrew", name, *revision, found),
-        Event::Adopted {
-            caller,
-            name,
-            revision,
-        } => push_on_found(alloc, text, caller, "adopted", name, *revision, found),
-        Event::Held { caller, name } => push_on_profile(text, caller, "held", name),
-        Event::Released { caller, name } => push_on_profile(text, caller, "released", name),
+        Event::Did { caller, deed } => push_deed(alloc, text, caller, deed, found),
     }
 }
 
@@ -316,7 +338,7 @@ pub fn text(
     let line = placed.line;
     let mut text = String::new(alloc);
     write!(text, "{line}  ")?;
-    push_deed(alloc, &mut text, &placed.event, found)?;
+    push_event(alloc, &mut text, &placed.event, found)?;
     text.push('\n')?;
     Ok(text)
 }

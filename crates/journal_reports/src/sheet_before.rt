@@ -18,14 +18,13 @@ ghost use Rattle.journal_reports.specs.Steps.{Looks, NoneWanted, Searches};
 ghost use Rattle.no_memory.specs.Witness.{witness};
 
 use crate::fault::NoEvidence;
-use crate::filter::doer_of;
 use crate::history::look_up;
 use crate::line::text;
 use journal::Placed;
 use journal_office::Replay;
 use office_desk::Office;
-use office_policy::Event;
-use review_policy::{ProfileName, Text};
+use office_policy::{Deed, Event};
+use review_policy::{ProfileName, RevisionAct, Text};
 use sqlite::{Alter, Connection};
 use std::alloc::{AllocError, Global};
 use std::io::BufRead;
@@ -37,17 +36,27 @@ fn is_profile(name: &ProfileName, other: &ProfileName) -> bool
     name.team.is(&other.team) && name.profile.is(&other.profile)
 }
 
+// Whether the deed is the issue of the revision.
+fn issues_by(deed: &Deed, name: &ProfileName, number: u32) -> bool
+    ensures { (caller : List ℕ) → result ≡ issues name.now number (did caller deed.now) }
+{
+    match deed {
+        Deed::ActOnRevision {
+            act: RevisionAct::Issue,
+            name: issued,
+            revision,
+        } => is_profile(name, issued) && number == *revision,
+        _ => false,
+    }
+}
+
 // Whether the event is the issue of the revision.
 fn issues(event: &Event, name: &ProfileName, number: u32) -> bool
     ensures { result ≡ issues name.now number (event_meant event.now) }
 {
     match event {
-        Event::Issued {
-            name: issued,
-            revision,
-            ..
-        } => is_profile(name, issued) && number == *revision,
-        _ => false,
+        Event::Founded { .. } => false,
+        Event::Did { deed, .. } => issues_by(deed, name, number),
     }
 }
 
@@ -67,7 +76,7 @@ fn issue_text(alloc: Global, placed: &Placed) -> Result<Text, NoEvidence>
     ensures text { IfOk result (λ text. text ≡ issue_text (placed_meant placed.now)) }
     ensures none { IfErr result (λ why. why ≡ NoEvidence.NoMemory witness) }
 {
-    let issuer = doer_of(&placed.event).as_str();
+    let issuer = placed.event.doer().as_str();
     let line = placed.line;
     match format!(in alloc; "issuer: {issuer}\nline: {line}\n") {
         Ok(text) => Ok(Text::new(text)),

@@ -5,6 +5,8 @@ use Rattle.sqlite.specs.Held.{Held, state}
 use Rattle.sqlite.specs.State.{HasCleanDisk}
 use Rattle.sqlite.specs.Store.{Ghosts}
 use Rattle.sqlite_trees.specs.Tree.{Trees}
+use Rattle.review_policy.specs.declared.act.ProfileAct.TheVariants.{Hold, Release}
+use Rattle.review_policy.specs.declared.act.RevisionAct.TheVariants.{Issue, Withdraw, Adopt}
 use Rattle.review_policy.specs.declared.ask.ProfileName.{ProfileName}
 use Rattle.review_policy.specs.declared.ask.Request.{Request}
 use Rattle.review_policy.specs.declared.answer.Answer.TheVariants.{Done, Fault}
@@ -39,7 +41,7 @@ use Rattle.office_policy.specs.Handled.{AreInPart, AreWithEvent, HasRisen, HasSt
 use Rattle.office_policy.specs.Happened.{event_by}
 use Rattle.office_policy.specs.Judging.{IsNext, IsPermitted, LeavesAll, answer_in, event_for}
 use Rattle.office_policy.proofs.AskedFacts.{changing}
-use Rattle.office_policy.proofs.EventFacts.{enrolled_tables, submitted_tables, voted_tables, issued_tables, withdrawn_tables, adopted_tables, held_tables, released_tables}
+use Rattle.office_policy.proofs.EventFacts.{enrolled_tables, submitted_tables, voted_tables, issued_tables, withdrawn_tables, adopted_tables, acted_tables}
 use Rattle.office_policy.proofs.HeadlineFacts.{given_out_approved}
 use Rattle.office_policy.proofs.LawFacts.{allowed_follows, lawful_apart}
 use Rattle.office_policy.proofs.Submissions.{next_free}
@@ -80,11 +82,11 @@ module _ (h : History) (lawful : IsLawfulHistory h) (allowed : Allowed) (known :
   makes_of (changes.Enrol user) may next = sym (enrolled_tables h allowed.caller.name user.name user.team user.roles user.digest)
   makes_of (changes.AddRevision p row) may next = revision_made p row next
   makes_of (changes.Vote p n digest approves) may next = vote_made p n digest approves
-  makes_of (changes.Issue p n) may next = sym (issued_tables h allowed.caller.name p n (allowed_follows h (issued allowed.caller.name p n) may).still_open)
-  makes_of (changes.Withdraw p n) may next = sym (withdrawn_tables h allowed.caller.name p n)
-  makes_of (changes.Adopt p n) may next = sym (adopted_tables h allowed.caller.name p n)
-  makes_of (changes.Hold p) may next = sym (held_tables h allowed.caller.name p)
-  makes_of (changes.Release p) may next = sym (released_tables h allowed.caller.name p)
+  makes_of (changes.ActOnRevision Issue p n) may next = sym (issued_tables h allowed.caller.name p n (allowed_follows h (issued allowed.caller.name p n) may).still_open)
+  makes_of (changes.ActOnRevision Withdraw p n) may next = sym (withdrawn_tables h allowed.caller.name p n)
+  makes_of (changes.ActOnRevision Adopt p n) may next = sym (adopted_tables h allowed.caller.name p n)
+  makes_of (changes.ActOnProfile Hold p) may next = sym (acted_tables h allowed.caller.name Hold p)
+  makes_of (changes.ActOnProfile Release p) may next = sym (acted_tables h allowed.caller.name Release p)
 
 -- ---- what that leaves
 

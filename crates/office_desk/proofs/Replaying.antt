@@ -17,8 +17,7 @@ use Rattle.review_policy.specs.declared.fault.Fault.TheVariants as faults
 use Rattle.review_policy.specs.declared.answer.Reply.{Reply}
 use Rattle.review_policy.specs.declared.answer.Reply.TheVariants as reply
 use Rattle.review_policy.specs.declared.denial.Denial.{Denial}
-use Rattle.review_policy.specs.Rules.{first_denial, vote_rules, issue_rules, withdraw_rules, adopt_rules, submit_rules}
-use Rattle.review_sheet.specs.Sheet.{sheet_text}
+use Rattle.review_policy.specs.Rules.{first_denial, vote_rules, submit_rules}
 use Rattle.review_policy.specs.declared.fault.Fault.{Fault}
 use Rattle.office_tables.specs.declared.row.UserRow.{UserRow}
 use Rattle.office_policy.specs.declared.change.Change.{Change}
@@ -27,25 +26,21 @@ use Rattle.office_policy.specs.declared.judge.Allowed.{Allowed}
 use Rattle.office_policy.specs.declared.judge.Judgement.{Judgement}
 use Rattle.office_policy.specs.declared.judge.Judgement.TheVariants as judgements
 use Rattle.office_policy.specs.Callers.{caller_of}
-use Rattle.office_policy.specs.Facts.{is_text_of, submit_facts, vote_facts, issue_facts, withdraw_facts, adopt_facts}
+use Rattle.office_policy.specs.Facts.{is_text_of, submit_facts, vote_facts}
 use Rattle.office_policy.specs.Formed.{HasForms, HasNumber}
 use Rattle.office_policy.specs.Handled.{AreWithEvent, RefusesEvent, Stands, Survives, only_reads}
-use Rattle.office_policy.specs.History.{Event, founded, enrolled, submitted, voted, issued, withdrawn, adopted, held, released, History}
-use Rattle.office_policy.specs.Holds.{is_held}
+use Rattle.office_policy.specs.History.{Event, founded, enrolled, submitted, voted, on_revision, on_profile, History}
 use Rattle.office_policy.specs.Happened.{event_by}
 use Rattle.office_policy.specs.Judging.{IsNext, LeavesAll, event_for}
 use Rattle.office_policy.specs.Lawful.{IsAllowed, IsLawfulHistory}
-use Rattle.office_policy.specs.Need.{need_at}
 use Rattle.office_policy.specs.Revisions.{revision_of, revision_count, last_revision, issued_revision, is_author}
 use Rattle.office_policy.specs.Runs.{event_of, with_event}
-use Rattle.office_policy.specs.Sheets.{sheet_of}
 use Rattle.office_policy.specs.TablesOf.{tables_of}
 use Rattle.office_policy.specs.Users.{user_of, name_of}
-use Rattle.office_policy.specs.Verdict.{Verdict, accepted, denied, new_revision, verdict_of, rules_of, done_of}
-use Rattle.office_policy.specs.Votes.{tally_at}
+use Rattle.office_policy.specs.Verdict.{Verdict, accepted, denied, given_of, new_revision, seen_of, verdict_of, rules_of, done_of}
 use Rattle.office_policy.proofs.CallerFacts.{allowed_by}
 use Rattle.office_policy.proofs.GivenOut.{carried_out_of}
-use Rattle.office_policy.proofs.LawFacts.{of_revision_by, of_user_by}
+use Rattle.office_policy.proofs.LawFacts.{done_to_by, of_revision_by, of_user_by, revision_there}
 use Rattle.office_policy.proofs.Numbered.{number_there}
 use Rattle.office_policy.proofs.RuleFacts.{none_refuses}
 use Rattle.office_policy.proofs.SurvivalFacts.{left_itself, survives_none}
@@ -76,21 +71,9 @@ module _ (h : History) (lawful : IsLawfulHistory h) (caller : Option UserRow) wh
       subst HasNumber (sym is)
       (number_there h lawful p n
       (none_refuses 1 (vote_rules (vote_facts caller (revision_of h p n) (is_author h p (name_of caller)) d)) (subst (λ b. first_denial (rules_of h caller b) ≡ Ok tt) is none)).1.1.0)
-  asks_numbered (issued c p n) a is none =
-      subst HasNumber (sym is)
-      (number_there h lawful p n
-      (none_refuses 1 (issue_rules (issue_facts caller (revision_of h p n) (is_author h p (name_of caller)) (tally_at h p n) (need_at h p n) (is_held h p)))
-      (subst (λ b. first_denial (rules_of h caller b) ≡ Ok tt) is none)).1.1.0)
-  asks_numbered (withdrawn c p n) a is none =
-      subst HasNumber (sym is)
-      (number_there h lawful p n
-      (none_refuses 1 (withdraw_rules (withdraw_facts caller p.team (revision_of h p n))) (subst (λ b. first_denial (rules_of h caller b) ≡ Ok tt) is none)).1.1.1.0)
-  asks_numbered (adopted c p n) a is none =
-      subst HasNumber (sym is)
-      (number_there h lawful p n
-      (none_refuses 1 (adopt_rules (adopt_facts caller (revision_of h p n) (is_author h p (name_of caller)))) (subst (λ b. first_denial (rules_of h caller b) ≡ Ok tt) is none)).1.1.0)
-  asks_numbered (held c p) a is none = subst HasNumber (sym is) tt
-  asks_numbered (released c p) a is none = subst HasNumber (sym is) tt
+  asks_numbered (on_revision c act p n) a is none =
+      subst HasNumber (sym is) (number_there h lawful p n (revision_there h caller act p n (subst (λ b. first_denial (rules_of h caller b) ≡ Ok tt) is none)))
+  asks_numbered (on_profile c act p) a is none = subst HasNumber (sym is) tt
 
 some_same : {A : Type 0} (x y : A) → Some x ≡ Some y → x ≡ y
 some_same x y is = cc
@@ -104,11 +87,8 @@ added_text : (who c : List ℕ) (q : ProfileName) (text other : List ℕ) (chang
 added_text who c q text other (changes.Enrol user) is = absurd cc
 added_text who c q text other (changes.AddRevision p row) is = ap (bytes_eq other) (submitted_text who c p q row.body text is)
 added_text who c q text other (changes.Vote p n d approves) is = absurd cc
-added_text who c q text other (changes.Issue p n) is = absurd cc
-added_text who c q text other (changes.Withdraw p n) is = absurd cc
-added_text who c q text other (changes.Adopt p n) is = absurd cc
-added_text who c q text other (changes.Hold p) is = absurd cc
-added_text who c q text other (changes.Release p) is = absurd cc
+added_text who c q text other (changes.ActOnRevision act p n) is = absurd cc
+added_text who c q text other (changes.ActOnProfile act p) is = absurd cc
 
 -- where it is allowed to the caller of the event, and has its text, it happens again
 pub happens_again : (e : Event) (a : Ask) (allowed : Allowed) → IsAskOf e a → caller_of e ≡ Some allowed.caller.name → has_text e allowed.change ≡ true → IsAskedBy a allowed → event_for allowed ≡ e
@@ -122,16 +102,10 @@ happens_again (submitted c p text) a allowed is caller same asked =
     happened ∙ ap (λ who. submitted who p (text_of handed.read)) (sym (some_same c allowed.caller.name caller)) ∙ ap (submitted c p) (sym body)
 happens_again (voted c p n d approves) a allowed is caller text asked =
     some_same _ _ (subst (λ b. IsAskedBy b allowed) is asked) ∙ ap (λ who. voted who p n d approves) (sym (some_same c allowed.caller.name caller))
-happens_again (issued c p n) a allowed is caller text asked =
-    some_same _ _ (subst (λ b. IsAskedBy b allowed) is asked) ∙ ap (λ who. issued who p n) (sym (some_same c allowed.caller.name caller))
-happens_again (withdrawn c p n) a allowed is caller text asked =
-    some_same _ _ (subst (λ b. IsAskedBy b allowed) is asked) ∙ ap (λ who. withdrawn who p n) (sym (some_same c allowed.caller.name caller))
-happens_again (adopted c p n) a allowed is caller text asked =
-    some_same _ _ (subst (λ b. IsAskedBy b allowed) is asked) ∙ ap (λ who. adopted who p n) (sym (some_same c allowed.caller.name caller))
-happens_again (held c p) a allowed is caller text asked =
-    some_same _ _ (subst (λ b. IsAskedBy b allowed) is asked) ∙ ap (λ who. held who p) (sym (some_same c allowed.caller.name caller))
-happens_again (released c p) a allowed is caller text asked =
-    some_same _ _ (subst (λ b. IsAskedBy b allowed) is asked) ∙ ap (λ who. released who p) (sym (some_same c allowed.caller.name caller))
+happens_again (on_revision c act p n) a allowed is caller text asked =
+    some_same _ _ (subst (λ b. IsAskedBy b allowed) is asked) ∙ ap (λ who. on_revision who act p n) (sym (some_same c allowed.caller.name caller))
+happens_again (on_profile c act p) a allowed is caller text asked =
+    some_same _ _ (subst (λ b. IsAskedBy b allowed) is asked) ∙ ap (λ who. on_profile who act p) (sym (some_same c allowed.caller.name caller))
 
 -- ---- an event that is allowed is allowed as what it asks
 
@@ -155,20 +129,15 @@ module _ (h : History) (caller : Option UserRow) where
   same_done (ask.Enrol user team roles digest) = λ a is. (ap (rules_of h caller) is, ap (done_of h caller) is)
   same_done (ask.Submit p document) = same_submission p document (reading_of document.items) refl
   same_done (ask.Vote p n digest approve) = λ a is. (ap (rules_of h caller) is, ap (done_of h caller) is)
-  same_done (ask.Issue p n) =
-      of_revision_by (IsSame h caller (ask.Issue p n)) (revision_of h p n) (λ r. accepted (reply.Issued r.digest) (Some (issued (name_of caller) p n))) tt
-      (λ r. λ a is. (ap (rules_of h caller) is, ap (done_of h caller) is))
-  same_done (ask.Withdraw p n) = λ a is. (ap (rules_of h caller) is, ap (done_of h caller) is)
-  same_done (ask.Adopt p n) = λ a is. (ap (rules_of h caller) is, ap (done_of h caller) is)
-  same_done (ask.Show p n) = of_revision_by (IsSame h caller (ask.Show p n)) (revision_of h p n) (λ r. accepted (reply.Shown r.digest r.body r.state) None) tt (λ r. tt)
-  same_done (ask.Sheet p n) = of_revision_by (IsSame h caller (ask.Sheet p n)) (revision_of h p n) (λ r. accepted (reply.Sheet (sheet_text (sheet_of h p r))) None) tt (λ r. tt)
+  same_done (ask.ActOnRevision act p n) =
+      done_to_by (IsSame h caller (ask.ActOnRevision act p n)) (revision_of h p n) act (on_revision (name_of caller) act p n) tt
+      (λ told. λ a is. (ap (rules_of h caller) is, ap (done_of h caller) is))
+  same_done (ask.SeeRevision view p n) = of_revision_by (IsSame h caller (ask.SeeRevision view p n)) (revision_of h p n) (λ r. accepted (seen_of h p view r) None) tt (λ r. tt)
   same_done (ask.List team) = tt
-  same_done (ask.Fetch p) = of_revision_by (IsSame h caller (ask.Fetch p)) (issued_revision h p) (λ r. accepted (reply.Fetched r.digest r.body r.number) None) tt (λ r. tt)
-  same_done (ask.Hold p) = λ a is. (ap (rules_of h caller) is, ap (done_of h caller) is)
-  same_done (ask.Release p) = λ a is. (ap (rules_of h caller) is, ap (done_of h caller) is)
+  same_done (ask.ActOnProfile act p) = λ a is. (ap (rules_of h caller) is, ap (done_of h caller) is)
+  same_done (ask.SeeProfile view p) = of_revision_by (IsSame h caller (ask.SeeProfile view p)) (issued_revision h p) (λ r. accepted (given_of view r) None) tt (λ r. tt)
   same_done ask.Me = of_user_by (IsSame h caller ask.Me) caller (λ u. accepted (reply.Me u.name u.team u.roles) None) tt (λ u. tt)
   same_done (ask.Revisions p before) = tt
-  same_done (ask.Issued p) = of_revision_by (IsSame h caller (ask.Issued p)) (issued_revision h p) (λ r. accepted (reply.IssuedNow r.digest r.number) None) tt (λ r. tt)
 
 pub allowed_again : (h : History) (e : Event) (is : IsAllowed h e) (a : Ask) → IsAskOf e a → verdict_for e a h ≡ accepted is.reply (Some e)
 allowed_again h e is a asks =
@@ -223,11 +192,8 @@ other_text h (submitted c p text) a allowed is caller other asked verdict =
 other_text h (founded n t d l) a allowed is caller other asked verdict = absurd is
 other_text h (enrolled c n t r d) a allowed is caller other asked verdict = absurd cc
 other_text h (voted c p n d approves) a allowed is caller other asked verdict = absurd cc
-other_text h (issued c p n) a allowed is caller other asked verdict = absurd cc
-other_text h (withdrawn c p n) a allowed is caller other asked verdict = absurd cc
-other_text h (adopted c p n) a allowed is caller other asked verdict = absurd cc
-other_text h (held c p) a allowed is caller other asked verdict = absurd cc
-other_text h (released c p) a allowed is caller other asked verdict = absurd cc
+other_text h (on_revision c act p n) a allowed is caller other asked verdict = absurd cc
+other_text h (on_profile c act p) a allowed is caller other asked verdict = absurd cc
 
 -- ---- what that leaves
 

@@ -1,7 +1,12 @@
 -- What carrying out what was allowed writes.
-use Rattle.std.specs.Prelude.{Result, ⊤}
+use Rattle.std.specs.Prelude.{ℕ, Result, ⊤}
 use Rattle.sqlite.specs.Held.{Held}
 use Rattle.sqlite.specs.Store.{Ghosts}
+use Rattle.review_policy.specs.declared.act.ProfileAct.{ProfileAct}
+use Rattle.review_policy.specs.declared.act.ProfileAct.TheVariants.{Hold, Release}
+use Rattle.review_policy.specs.declared.act.RevisionAct.{RevisionAct}
+use Rattle.review_policy.specs.declared.act.RevisionAct.TheVariants.{Issue, Withdraw, Adopt}
+use Rattle.review_policy.specs.declared.ask.ProfileName.{ProfileName}
 use Rattle.review_policy.specs.declared.role.Role.TheVariants.{Security}
 use Rattle.review_policy.specs.Role.{has_role}
 use Rattle.review_policy.specs.declared.fault.Fault.{Fault}
@@ -15,17 +20,25 @@ use Rattle.office_policy.specs.declared.change.Change.{Change}
 use Rattle.office_policy.specs.declared.change.Change.TheVariants as changes
 use Rattle.office_policy.specs.declared.judge.Allowed.{Allowed}
 
+-- the write of what is done to a revision
+abbrev pub write_on_revision : RevisionAct → ProfileName → ℕ → Write
+write_on_revision Issue p n = issues p n
+write_on_revision Withdraw p n = withdraws p n
+write_on_revision Adopt p n = puts_baseline p n
+
+-- the write of what is done to a profile
+abbrev pub write_on_profile : ProfileAct → ProfileName → Write
+write_on_profile Hold p = puts_hold p
+write_on_profile Release p = deletes_hold p
+
 -- the write of a change that this user asks for
 abbrev pub write_by : UserRow → Change → Write
 write_by caller (changes.Enrol user) = puts_user user
 write_by caller (changes.AddRevision p row) = adds_revision p row
 write_by caller (changes.Vote p n digest approves) =
     puts_vote (vote_entry p n caller.name approves (has_role caller.roles Security))
-write_by caller (changes.Issue p n) = issues p n
-write_by caller (changes.Withdraw p n) = withdraws p n
-write_by caller (changes.Adopt p n) = puts_baseline p n
-write_by caller (changes.Hold p) = puts_hold p
-write_by caller (changes.Release p) = deletes_hold p
+write_by caller (changes.ActOnRevision act p n) = write_on_revision act p n
+write_by caller (changes.ActOnProfile act p) = write_on_profile act p
 
 -- the write of what was allowed
 abbrev pub write_of : Allowed → Write

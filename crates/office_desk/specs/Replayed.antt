@@ -18,8 +18,8 @@ use Rattle.office_policy.specs.declared.change.Change.TheVariants as changes
 use Rattle.office_policy.specs.Callers.{caller_of}
 use Rattle.office_policy.specs.Facts.{is_text_of}
 use Rattle.office_policy.specs.Handled.{HasRisen, IsUnwritten, Stands, Survives}
-use Rattle.office_policy.specs.History.{Event, founded, enrolled, submitted, voted, issued}
-use Rattle.office_policy.specs.History.{withdrawn, adopted, held, released, History}
+use Rattle.office_policy.specs.History.{Event, founded, enrolled, submitted, voted}
+use Rattle.office_policy.specs.History.{on_revision, on_profile, History}
 use Rattle.office_policy.specs.Judging.{LeavesAll}
 use Rattle.office_policy.specs.Lawful.{IsAllowed}
 use Rattle.office_policy.specs.Meaning.{Meaning}
@@ -40,11 +40,8 @@ IsAskOf (enrolled caller user team roles digest) a = a ≡ ask.Enrol user team r
 IsAskOf (submitted caller p text) a =
     (document : Vec ℕ Global) × (document.items ≡ text) × (a ≡ ask.Submit p document)
 IsAskOf (voted caller p n digest approves) a = a ≡ ask.Vote p n digest approves
-IsAskOf (issued caller p n) a = a ≡ ask.Issue p n
-IsAskOf (withdrawn caller p n) a = a ≡ ask.Withdraw p n
-IsAskOf (adopted caller p n) a = a ≡ ask.Adopt p n
-IsAskOf (held caller p) a = a ≡ ask.Hold p
-IsAskOf (released caller p) a = a ≡ ask.Release p
+IsAskOf (on_revision caller act p n) a = a ≡ ask.ActOnRevision act p n
+IsAskOf (on_profile caller act p) a = a ≡ ask.ActOnProfile act p
 
 -- the verdict on it is of the user of the name that the event has
 abbrev pub verdict_for : Event → Ask → History → Verdict

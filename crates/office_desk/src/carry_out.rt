@@ -3,10 +3,9 @@
 ghost use Rattle.sqlite.specs.Held.{state};
 ghost use Rattle.review_policy.specs.Role.{has_role};
 ghost use Rattle.office_store.specs.Entries.{vote_entry};
-ghost use Rattle.office_store.specs.Refusing.{puts_user, adds_revision, issues, withdraws};
-ghost use Rattle.office_store.specs.Refusing.{puts_vote, puts_baseline, puts_hold, deletes_hold};
+ghost use Rattle.office_store.specs.Refusing.{puts_user, adds_revision, puts_vote};
 ghost use Rattle.office_store.specs.Shown.{IsIdle};
-ghost use Rattle.office_desk.specs.Carries.{Asks, write_of};
+ghost use Rattle.office_desk.specs.Carries.{Asks, write_of, write_on_profile, write_on_revision};
 
 use office_policy::{Allowed, Change};
 use office_store::{
@@ -14,7 +13,7 @@ use office_store::{
     set_withdrawn,
 };
 use office_tables::{RevisionRow, UserRow};
-use review_policy::{Fault, ProfileName, Role};
+use review_policy::{Fault, ProfileAct, ProfileName, RevisionAct, Role};
 use sqlite::{Alter, Connection};
 
 // Enrols a user, or gives an enrolled one these roles and this token.
@@ -60,56 +59,36 @@ fn write_vote<S: Alter>(
     )
 }
 
-// Issues a revision.
-fn write_issue<S: Alter>(
+// Does this to a revision.
+fn write_on_revision<S: Alter>(
     conn: &mut Connection<S>,
+    act: RevisionAct,
     name: &ProfileName,
     number: u32,
 ) -> Result<(), Fault>
     requires { IsIdle (state S.Store conn.old) }
-    ensures { Asks S.Store (issues name.now number) conn.old conn.new result }
+    ensures { Asks S.Store (write_on_revision act name.now number) conn.old conn.new result }
 {
-    set_issued(conn, name, number)
+    match act {
+        RevisionAct::Issue => set_issued(conn, name, number),
+        RevisionAct::Withdraw => set_withdrawn(conn, name, number),
+        RevisionAct::Adopt => put_baseline(conn, name, number),
+    }
 }
 
-// Takes a revision back.
-fn write_withdrawal<S: Alter>(
+// Does this to a profile.
+fn write_on_profile<S: Alter>(
     conn: &mut Connection<S>,
+    act: ProfileAct,
     name: &ProfileName,
-    number: u32,
 ) -> Result<(), Fault>
     requires { IsIdle (state S.Store conn.old) }
-    ensures { Asks S.Store (withdraws name.now number) conn.old conn.new result }
+    ensures { Asks S.Store (write_on_profile act name.now) conn.old conn.new result }
 {
-    set_withdrawn(conn, name, number)
-}
-
-// Makes a revision the baseline of its team.
-fn write_adoption<S: Alter>(
-    conn: &mut Connection<S>,
-    name: &ProfileName,
-    number: u32,
-) -> Result<(), Fault>
-    requires { IsIdle (state S.Store conn.old) }
-    ensures { Asks S.Store (puts_baseline name.now number) conn.old conn.new result }
-{
-    put_baseline(conn, name, number)
-}
-
-// Holds a profile.
-fn write_hold<S: Alter>(conn: &mut Connection<S>, name: &ProfileName) -> Result<(), Fault>
-    requires { IsIdle (state S.Store conn.old) }
-    ensures { Asks S.Store (puts_hold name.now) conn.old conn.new result }
-{
-    put_hold(conn, name)
-}
-
-// Ends the hold of a profile.
-fn write_release<S: Alter>(conn: &mut Connection<S>, name: &ProfileName) -> Result<(), Fault>
-    requires { IsIdle (state S.Store conn.old) }
-    ensures { Asks S.Store (deletes_hold name.now) conn.old conn.new result }
-{
-    delete_hold(conn, name)
+    match act {
+        ProfileAct::Hold => put_hold(conn, name),
+        ProfileAct::Release => delete_hold(conn, name),
+    }
 }
 
 // Carries out what was allowed, by one call of the store.
@@ -126,10 +105,11 @@ pub(crate) fn carry_out<S: Alter>(conn: &mut Connection<S>, allowed: &Allowed) -
             approves,
             ..
         } => write_vote(conn, &allowed.caller, name, *revision, *approves),
-        Change::Issue { name, revision } => write_issue(conn, name, *revision),
-        Change::Withdraw { name, revision } => write_withdrawal(conn, name, *revision),
-        Change::Adopt { name, revision } => write_adoption(conn, name, *revision),
-        Change::Hold { name } => write_hold(conn, name),
-        Change::Release { name } => write_release(conn, name),
+        Change::ActOnRevision {
+            act,
+            name,
+            revision,
+        } => write_on_revision(conn, *act, name, *revision),
+        Change::ActOnProfile { act, name } => write_on_profile(conn, *act, name),
     }
 }

@@ -4,7 +4,6 @@
 
 mod answer;
 mod carry_out;
-mod forms;
 pub mod migrated;
 mod office;
 pub mod reopening;

@@ -6,14 +6,13 @@ ghost use Rattle.std.specs.Prelude.{◌≡◌};
 
 use crate::answer::judgement;
 use crate::carry_out::carry_out;
-use crate::forms::{founding_forms, request_forms};
 use crate::replay::{Unreplayed, replay};
 use crate::shown::shows;
 use cap_sets::Caps;
 use office_founding::{FoundingFault, OpeningFault, check_office, found};
 use office_judging::judge::judge;
 use office_judging::sheet_at;
-use office_policy::{Allowed, Event, Handler, Judge, Judgement};
+use office_policy::{Allowed, Event, Handler, Judge, Judgement, founding_forms, request_forms};
 use office_store::{last, revision};
 use office_tables::RevisionRow;
 use review_policy::{Answer, Fault, ProfileName, Request, Text, Word};

@@ -1,20 +1,20 @@
 //! Events that happen again.
 
-ghost use Rattle.std.specs.Prelude.{◌≡◌, Some, IfErr, IfOk, option_map};
+ghost use Rattle.std.specs.Prelude.{◌≡◌, ℕ, List, Some, IfErr, IfOk};
 ghost use Rattle.sqlite.specs.Held.{state};
 ghost use Rattle.office_store.specs.Shown.{IsIdle};
 ghost use Rattle.office_policy.specs.Callers.{caller_of};
 ghost use Rattle.office_policy.specs.Facts.{is_text_of};
 ghost use Rattle.office_policy.specs.Formed.{HasForms};
 ghost use Rattle.office_policy.specs.Happened.{event_meant};
+ghost use Rattle.office_policy.specs.History.{did};
 ghost use Rattle.office_desk.specs.Meant.{meaning_over};
 ghost use Rattle.office_desk.specs.Replayed.{HasNoAsk, IsAskOf, IsReplayed, added, has_text};
 
 use crate::carry_out::carry_out;
-use crate::forms::ask_forms;
 use office_judging::Refusal;
 use office_judging::judge::judge_named;
-use office_policy::{Change, Event, Judgement};
+use office_policy::{Change, Deed, Event, Judgement, ask_forms};
 use review_policy::{Ask, Denial, Fault, Text, Word};
 use sqlite::{Alter, Connection};
 use std::alloc::{AllocError, Global};
@@ -75,20 +75,51 @@ impl From<AllocError> for Unreplayed {
     }
 }
 
-// The name of who asked for the event; nobody asks for a founding.
-fn caller_of(event: &Event) -> Option<&Word>
-    ensures { option_map (λ name. name.now) result ≡ caller_of (event_meant event.now) }
+// What a user did, as it is asked; of a submission the document is the text itself.
+fn ask_to(alloc: Global, deed: &Deed) -> Result<Ask, Unreplayed>
+    ensures ask { (caller : List ℕ) → IfOk result (IsAskOf (did caller deed.now)) }
+    ensures none { (caller : List ℕ) → IfErr result (HasNoAsk (did caller deed.now)) }
 {
-    match event {
-        Event::Founded { .. } => None,
-        Event::Enrolled { caller, .. }
-        | Event::Submitted { caller, .. }
-        | Event::Voted { caller, .. }
-        | Event::Issued { caller, .. }
-        | Event::Withdrawn { caller, .. }
-        | Event::Adopted { caller, .. }
-        | Event::Held { caller, .. }
-        | Event::Released { caller, .. } => Some(caller),
+    match deed {
+        Deed::Enrol {
+            user,
+            team,
+            roles,
+            digest,
+        } => Ok(Ask::Enrol {
+            user: user.clone()?,
+            team: team.clone()?,
+            roles: *roles,
+            digest: *digest,
+        }),
+        Deed::Submit { name, text } => Ok(Ask::Submit {
+            name: name.clone()?,
+            document: Vec::from_slice(alloc, text.as_str().as_bytes())?,
+        }),
+        Deed::Vote {
+            name,
+            revision,
+            digest,
+            approves,
+        } => Ok(Ask::Vote {
+            name: name.clone()?,
+            revision: *revision,
+            digest: *digest,
+            approve: *approves,
+        }),
+        Deed::ActOnRevision {
+            act,
+            name,
+            revision,
+        } => Ok(Ask::ActOnRevision {
+            act: *act,
+            name: name.clone()?,
+            revision: *revision,
+        }),
+        Deed::ActOnProfile { act, name } => Ok(Ask::ActOnProfile {
+            act: *act,
+            name: name.clone()?,
+        }),
     }
 }
 
@@ -99,52 +130,7 @@ fn ask_of(alloc: Global, event: &Event) -> Result<Ask, Unreplayed>
 {
     match event {
         Event::Founded { .. } => Err(Unreplayed::Founding),
-        Event::Enrolled {
-            user,
-            team,
-            roles,
-            digest,
-            ..
-        } => Ok(Ask::Enrol {
-            user: user.clone()?,
-            team: team.clone()?,
-            roles: *roles,
-            digest: *digest,
-        }),
-        Event::Submitted { name, text, .. } => Ok(Ask::Submit {
-            name: name.clone()?,
-            document: Vec::from_slice(alloc, text.as_str().as_bytes())?,
-        }),
-        Event::Voted {
-            name,
-            revision,
-            digest,
-            approves,
-            ..
-        } => Ok(Ask::Vote {
-            name: name.clone()?,
-            revision: *revision,
-            digest: *digest,
-            approve: *approves,
-        }),
-        Event::Issued { name, revision, .. } => Ok(Ask::Issue {
-            name: name.clone()?,
-            revision: *revision,
-        }),
-        Event::Withdrawn { name, revision, .. } => Ok(Ask::Withdraw {
-            name: name.clone()?,
-            revision: *revision,
-        }),
-        Event::Adopted { name, revision, .. } => Ok(Ask::Adopt {
-            name: name.clone()?,
-            revision: *revision,
-        }),
-        Event::Held { name, .. } => Ok(Ask::Hold {
-            name: name.clone()?,
-        }),
-        Event::Released { name, .. } => Ok(Ask::Release {
-            name: name.clone()?,
-        }),
+        Event::Did { deed, .. } => ask_to(alloc, deed),
     }
 }
 
@@ -158,13 +144,23 @@ fn is_text_of(text: &Text, change: &Change) -> bool
     }
 }
 
+// Whether a change has the text of what a user did, where that is a submission.
+fn is_of_text(deed: &Deed, change: &Change) -> bool
+    ensures { (caller : List ℕ) → result ≡ has_text (did caller deed.now) change.now }
+{
+    match deed {
+        Deed::Submit { text, .. } => is_text_of(text, change),
+        _ => true,
+    }
+}
+
 // Whether a change has the text of the event, where that is a submission.
 fn has_text(event: &Event, change: &Change) -> bool
     ensures { result ≡ has_text (event_meant event.now) change.now }
 {
     match event {
-        Event::Submitted { text, .. } => is_text_of(text, change),
-        _ => true,
+        Event::Founded { .. } => true,
+        Event::Did { deed, .. } => is_of_text(deed, change),
     }
 }
 
@@ -206,7 +202,7 @@ pub(crate) fn replay<S: Alter>(
     ensures replayed { IsReplayed (meaning_over S.Store)
         conn.old conn.new (event_meant event.now) result }
 {
-    let Some(name) = caller_of(event) else {
+    let Some(name) = event.caller() else {
         return Err(Unreplayed::Founding);
     };
     let ask = ask_of(alloc, event)?;

@@ -9,9 +9,9 @@ ghost use Rattle.office_store.specs.Ballots.{vote_of};
 ghost use Rattle.office_store.specs.Connections.{Reads};
 ghost use Rattle.office_store.specs.Shown.{IsIdle};
 ghost use Rattle.office_policy.specs.Happened.{event_meant};
-ghost use Rattle.office_policy.specs.History.{founded};
+ghost use Rattle.office_policy.specs.History.{did, founded};
 ghost use Rattle.office_policy.specs.Revisions.{state_in};
-ghost use Rattle.office_policy.specs.ShowsEvent.{HasUser, LastIsOpen, Shows};
+ghost use Rattle.office_policy.specs.ShowsEvent.{HasUser, LastIsOpen, Shows, ShowsAct};
 ghost use Rattle.office_policy.specs.Users.{registrar_alone};
 ghost use Rattle.office_judging.specs.Summarized.{as_asked};
 ghost use Rattle.office_desk.specs.Looking.{IsOpenBy};
@@ -19,12 +19,12 @@ ghost use Rattle.office_desk.specs.Looking.{IsOpenBy};
 use cap_sets::Caps;
 use office_founding::listed;
 use office_judging::state_of;
-use office_policy::Event;
+use office_policy::{Deed, Event};
 use office_store::{
     Adopted, Ballot, Summary, ballot_of, baseline, held, last, summary_at, user_by_name,
 };
 use office_tables::{RevisionRow, UserRow};
-use review_policy::{Fault, ProfileName, Role, Roles, State, Text, Word};
+use review_policy::{Fault, ProfileName, RevisionAct, Role, Roles, State, Text, Word};
 use sqlite::{Alter, Connection};
 use std::alloc::Global;
 
@@ -235,6 +235,59 @@ fn shows_hold<S: Alter>(
     Ok(held(conn, name)? == is_held)
 }
 
+// Whether the tables show what was done to a revision.
+fn shows_act<S: Alter>(
+    alloc: Global,
+    conn: &mut Connection<S>,
+    act: RevisionAct,
+    name: &ProfileName,
+    number: u32,
+) -> Result<bool, Fault>
+    requires { IsIdle (state S.Store conn.old) }
+    ensures { Reads S.Store conn.old conn.new result (λ t shown.
+        shown ≡ true ↔ ShowsAct t act name.now number) }
+{
+    match act {
+        RevisionAct::Issue => shows_state(conn, name, number, State::Issued),
+        RevisionAct::Withdraw => shows_state(conn, name, number, State::Withdrawn),
+        RevisionAct::Adopt => shows_baseline(alloc, conn, name, number),
+    }
+}
+
+// Whether the tables show what a user did.
+fn shows_deed<S: Alter>(
+    alloc: Global,
+    conn: &mut Connection<S>,
+    caller: &Word,
+    deed: &Deed,
+) -> Result<bool, Fault>
+    requires { IsIdle (state S.Store conn.old) }
+    ensures { Reads S.Store conn.old conn.new result (λ t shown.
+        shown ≡ true ↔ Shows t (did caller.now deed.now)) }
+{
+    match deed {
+        Deed::Enrol {
+            user,
+            team,
+            roles,
+            digest,
+        } => shows_user(alloc, conn, user, team, *roles, digest),
+        Deed::Submit { name, text } => shows_submission(alloc, conn, caller, name, text),
+        Deed::Vote {
+            name,
+            revision,
+            approves,
+            ..
+        } => shows_vote(alloc, conn, caller, name, *revision, *approves),
+        Deed::ActOnRevision {
+            act,
+            name,
+            revision,
+        } => shows_act(alloc, conn, *act, name, *revision),
+        Deed::ActOnProfile { act, name } => shows_hold(conn, name, act.holds()),
+    }
+}
+
 // Whether the tables show an event.
 pub(crate) fn shows<S: Alter>(
     alloc: Global,
@@ -252,29 +305,6 @@ pub(crate) fn shows<S: Alter>(
             digest,
             listed,
         } => shows_founding(alloc, conn, user, team, digest, *listed),
-        Event::Enrolled {
-            user,
-            team,
-            roles,
-            digest,
-            ..
-        } => shows_user(alloc, conn, user, team, *roles, digest),
-        Event::Submitted { caller, name, text } => shows_submission(
-            alloc, conn, caller, name, text,
-        ),
-        Event::Voted {
-            caller,
-            name,
-            revision,
-            approves,
-            ..
-        } => shows_vote(alloc, conn, caller, name, *revision, *approves),
-        Event::Issued { name, revision, .. } => shows_state(conn, name, *revision, State::Issued),
-        Event::Withdrawn { name, revision, .. } => {
-            shows_state(conn, name, *revision, State::Withdrawn)
-        }
-        Event::Adopted { name, revision, .. } => shows_baseline(alloc, conn, name, *revision),
-        Event::Held { name, .. } => shows_hold(conn, name, true),
-        Event::Released { name, .. } => shows_hold(conn, name, false),
+        Event::Did { caller, deed } => shows_deed(alloc, conn, caller, deed),
     }
 }

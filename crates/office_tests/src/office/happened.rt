@@ -1,7 +1,7 @@
 //! Events: whether the tables of an office show one, and that it happens again.
 
 use office_desk::{Office, Unreplayed};
-use office_policy::Event;
+use office_policy::{Deed, Event};
 use review_policy::{Role, Roles, Word};
 use sqlite::Alter;
 use std::alloc::Global;
@@ -27,12 +27,15 @@ fn founded_by(alloc: Global, user: &str) -> Result<Event, Fail> {
 
 // That this caller enrolled ann as an author of blue.
 fn enrolment(alloc: Global, caller: &str) -> Result<Event, Fail> {
-    Ok(Event::Enrolled {
-        caller: Word::new(alloc, caller)?,
+    let deed = Deed::Enrol {
         user: Word::new(alloc, "ann")?,
         team: Word::new(alloc, "blue")?,
         roles: Roles::empty().with(Role::Author),
         digest: [7; 32],
+    };
+    Ok(Event::Did {
+        caller: Word::new(alloc, caller)?,
+        deed,
     })
 }
 

@@ -11,17 +11,8 @@ returns-in-AddRevision g c = subst (λ change. Asks g.S.Store (write_by c.args.a
 pub returns-in-Vote : goal.returns-in-Vote
 returns-in-Vote g c = subst (λ change. Asks g.S.Store (write_by c.args.allowed.now.caller change) c.args.conn.now c.write_vote.new.conn c.write_vote.result) (sym c.in-Vote.is) c.write_vote.ensures
 
-pub returns-in-Issue : goal.returns-in-Issue
-returns-in-Issue g c = subst (λ change. Asks g.S.Store (write_by c.args.allowed.now.caller change) c.args.conn.now c.write_issue.new.conn c.write_issue.result) (sym c.in-Issue.is) c.write_issue.ensures
+pub returns-in-ActOnRevision : goal.returns-in-ActOnRevision
+returns-in-ActOnRevision g c = subst (λ change. Asks g.S.Store (write_by c.args.allowed.now.caller change) c.args.conn.now c.write_on_revision.new.conn c.write_on_revision.result) (sym c.in-ActOnRevision.is) c.write_on_revision.ensures
 
-pub returns-in-Withdraw : goal.returns-in-Withdraw
-returns-in-Withdraw g c = subst (λ change. Asks g.S.Store (write_by c.args.allowed.now.caller change) c.args.conn.now c.write_withdrawal.new.conn c.write_withdrawal.result) (sym c.in-Withdraw.is) c.write_withdrawal.ensures
-
-pub returns-in-Adopt : goal.returns-in-Adopt
-returns-in-Adopt g c = subst (λ change. Asks g.S.Store (write_by c.args.allowed.now.caller change) c.args.conn.now c.write_adoption.new.conn c.write_adoption.result) (sym c.in-Adopt.is) c.write_adoption.ensures
-
-pub returns-in-Hold : goal.returns-in-Hold
-returns-in-Hold g c = subst (λ change. Asks g.S.Store (write_by c.args.allowed.now.caller change) c.args.conn.now c.write_hold.new.conn c.write_hold.result) (sym c.in-Hold.is) c.write_hold.ensures
-
-pub returns-in-Release : goal.returns-in-Release
-returns-in-Release g c = subst (λ change. Asks g.S.Store (write_by c.args.allowed.now.caller change) c.args.conn.now c.write_release.new.conn c.write_release.result) (sym c.in-Release.is) c.write_release.ensures
+pub returns-in-ActOnProfile : goal.returns-in-ActOnProfile
+returns-in-ActOnProfile g c = subst (λ change. Asks g.S.Store (write_by c.args.allowed.now.caller change) c.args.conn.now c.write_on_profile.new.conn c.write_on_profile.result) (sym c.in-ActOnProfile.is) c.write_on_profile.ensures

@@ -10,7 +10,7 @@ use Rattle.office_desk.proofs.replay.replay.Goals as goal
 pub returns-in_default-clause-replayed : goal.returns-in_default-clause-replayed
 returns-in_default-clause-replayed g c =
     undone_at_once g.S.Store c.args.conn.now (leaves_only (state g.S.Store c.args.conn.now) (g.met.S.Store.settled c.args.conn.now.store)) (event_meant c.args.event.now) causes.Founding
-    (sym c.caller_of.ensures ∙ ap (option_map (λ n. n.now)) c.in_default.is)
+    (sym c.caller.ensures ∙ ap (option_map (λ n. n.now)) c.in_default.is)
 
 pub returns-in_err-ask-clause-replayed : goal.returns-in_err-ask-clause-replayed
 returns-in_err-ask-clause-replayed g c =

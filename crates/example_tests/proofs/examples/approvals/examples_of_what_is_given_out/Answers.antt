@@ -1,4 +1,6 @@
 use Rattle.std.proofs.Common.{◌≡◌, ℕ, List, Option, Some, None, refl, ap, arith, slice_index_or}
+use Rattle.review_policy.specs.declared.act.ProfileView.TheVariants.{Fetch}
+use Rattle.review_policy.specs.declared.act.ProfileView.TheVariants as views
 use Rattle.review_policy.specs.declared.ask.Ask.TheVariants as ask
 use Rattle.office_policy.specs.Examples.{text, web}
 use Rattle.office_policy.specs.Revisions.{Submission}
@@ -20,7 +22,7 @@ returns-clause-issued_now_of_nothing c = λ r digest n told.
     never_issued fetch.since fetch.before fetch.issuer fetch.profile n fetch.issue
 
 pub returns-clause-issued_now_unasked : goal.returns-clause-issued_now_unasked
-returns-clause-issued_now_unasked c = λ token digest n told. let k : ask.Fetch web ≡ ask.Issued told.profile = told.asked in cc
+returns-clause-issued_now_unasked c = λ token digest n told. let k : ask.SeeProfile Fetch web ≡ ask.SeeProfile views.Issued told.profile = told.asked in cc
 
 pub returns-clause-issued_by_its_author : goal.returns-clause-issued_by_its_author
 returns-clause-issued_by_its_author c = λ token is issue. by_no_author _ issue.profile issue.number is issue.asked issue.approved.issuer_no_author
@@ -43,4 +45,4 @@ returns-clause-other_text c = λ token fetch.
     omega (arith, k)
 
 pub returns-clause-not_asked : goal.returns-clause-not_asked
-returns-clause-not_asked c = λ token digest bytes n fetch. let k : ask.Me ≡ ask.Fetch fetch.profile = fetch.asked in cc
+returns-clause-not_asked c = λ token digest bytes n fetch. let k : ask.Me ≡ ask.SeeProfile Fetch fetch.profile = fetch.asked in cc
