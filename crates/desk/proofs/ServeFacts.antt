@@ -10,7 +10,7 @@ use Rattle.streams.specs.Lines.{first_line, lines_of, NoFeed}
 use Rattle.streams.proofs.HandedFacts.{all_handed, last_held, next_held}
 use Rattle.streams.proofs.HeldFacts.{holds_no_feed}
 use Rattle.desk.specs.declared.fault.DeskFault.{DeskFault}
-use Rattle.desk.specs.declared.fault.DeskFault.TheVariants.{Read, Write, TooManyReads, NoMemory}
+use Rattle.desk.specs.declared.fault.DeskFault.TheVariants.{Read, Write, TooManyReads, NoMemory, Unbegun}
 use Rattle.desk.specs.declared.outcome.LineOutcome.{LineOutcome}
 use Rattle.desk.specs.Outcomes.{told, want_of}
 use Rattle.desk.specs.declared.ended.Ended.{Ended}
@@ -120,12 +120,11 @@ module _ {X : Type 0} (m : Meaning X) where
           handled = handled_more m old mid new p.lines p.answered.outcomes line so.0 p.answered.handled so.1;
         }
 
-    -- its number is not 0
-    pub served_later : Serves → ended.answered ≡ Err (NoMemory 0 witness) → ⊥
+    -- the desk had begun
+    pub served_later : Serves → ended.answered ≡ Err (Unbegun witness) → ⊥
     served_later serves is =
         let so = serves p.handed.rest p.handed.holds in
-        let none : IsServed between after (told so.0) (number + 1) (Err (NoMemory 0 witness)) = subst (λ (r : Result ⊤ DeskFault). IsServed between after (told so.0) (number + 1) r) is so.2 in
-        omega (arith, none.0)
+        subst (λ (r : Result ⊤ DeskFault). IsServed between after (told so.0) (number + 1) r) is so.2
 
     served_whole : Serves → ended.answered ≡ Ok tt → AreAnswered m old new before after (p.lines ++ line ∷ []) ended.witness
     served_whole serves is =
@@ -174,6 +173,7 @@ module _ {X : Type 0} (m : Meaning X) where
           rw (served.0) (omega arith, within, rw (up_to, served.1) (cut_before m old mid new before between after p.lines line o want ended.witness p.answered handled tells))
       stops (Read n) o handled served tells = absurd served
       stops (TooManyReads n) o handled served tells = absurd served
+      stops (Unbegun _) o handled served tells = absurd served
 
     stops_in : (u : Option (List ℕ)) → IfSome u (λ input. (more : List (List ℕ)) × (lines_of input ≡ p.lines ++ first_line p.handed.rest ∷ more))
         → (e : DeskFault) (o : LineOutcome) → IsHandled m mid new line o → IsServed between after (told o) (number + 1) (Err e) → ended.witness ≡ option_or want (want_of o)
@@ -193,7 +193,7 @@ module _ {X : Type 0} (m : Meaning X) where
         stands : (e : DeskFault) (o : LineOutcome) → IsHandled m mid new line o → IsServed between after (told o) (number + 1) (Err e) → ended.witness ≡ option_or want (want_of o)
             → StandsAfter m old new unread rest before after ended.witness e
         stands (Write n) o handled served tells = stops_in unread next (Write n) o handled served tells
-        stands (NoMemory zero _) o handled served tells = absurd (omega (arith, served.0))
-        stands (NoMemory (suc k) _) o handled served tells = stops_in unread next (NoMemory (suc k) witness) o handled served tells
+        stands (NoMemory n _) o handled served tells = stops_in unread next (NoMemory n witness) o handled served tells
         stands (Read n) o handled served tells = absurd served
         stands (TooManyReads n) o handled served tells = absurd served
+        stands (Unbegun _) o handled served tells = absurd served

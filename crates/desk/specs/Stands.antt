@@ -1,5 +1,5 @@
 -- What the desk leaves of an office, a reader and a writer.
-use Rattle.std.specs.Prelude.{◌≡◌, ℕ, zero, suc, ◌<◌, ◌≤◌, List, [], ◌∷◌, ◌++◌, Option, IfSome}
+use Rattle.std.specs.Prelude.{◌≡◌, ℕ, suc, ◌<◌, ◌≤◌, List, [], ◌∷◌, ◌++◌, Option, IfSome}
 use Rattle.std.specs.Prelude.{length, take}
 use Rattle.std.specs.Io.KnownBytes.{Keeps, Appends, Consumes}
 use Rattle.office_policy.specs.History.{History}
@@ -17,7 +17,7 @@ use Rattle.desk.specs.Outcomes.{IsOutcome, history_after_line, AreOutcomes, hist
 use Rattle.desk.specs.Outcomes.{requests_of, answers_of, told, transcript, want_in}
 use Rattle.desk.specs.Parts.{IsCut}
 use Rattle.desk.specs.declared.fault.DeskFault.{DeskFault}
-use Rattle.desk.specs.declared.fault.DeskFault.TheVariants.{Read, Write, TooManyReads, NoMemory}
+use Rattle.desk.specs.declared.fault.DeskFault.TheVariants.{Read, Write, TooManyReads, NoMemory, Unbegun}
 use Rattle.no_memory.specs.Witness.{witness}
 use Rattle.no_memory.specs.declared.witness.NoMemory.{«NoMemory» as Want}
 
@@ -109,6 +109,7 @@ module _ {X : Type 0} (m : Meaning X) where
       × AreCutShort old new before after (take line lines) want 0
   StopsWriting old new before after lines want (Read line) = ⊥
   StopsWriting old new before after lines want (TooManyReads line) = ⊥
+  StopsWriting old new before after lines want (Unbegun _) = ⊥
 
   module _ (old new : X) (unread rest before after : Known) (want : Option Want) where
     -- the lines that were read whole are answered, and nothing of the unfinished one, which has this
@@ -122,14 +123,14 @@ module _ {X : Type 0} (m : Meaning X) where
       pub number : line ≡ suc (length (lines_of whole))
       pub answered : AreAnswered old new before after (lines_of whole) want
 
-    -- what stands after a fault; out of memory before the first line was read, nothing is written
+    -- what stands after a fault; where there was no memory to begin, nothing is written
     abbrev pub StandsAfter : DeskFault → Type 0
     StandsAfter (Read line) = IsUnfinished line
     StandsAfter (TooManyReads line) = IsUnfinished line
     StandsAfter (Write line) =
         IfSome unread
         (λ input. StopsWriting old new before after (lines_of input) want (Write line))
-    StandsAfter (NoMemory zero _) = Keeps before after
-    StandsAfter (NoMemory (suc k) _) =
+    StandsAfter (NoMemory line _) =
         IfSome unread (λ input.
-        StopsWriting old new before after (lines_of input) want (NoMemory (suc k) witness))
+        StopsWriting old new before after (lines_of input) want (NoMemory line witness))
+    StandsAfter (Unbegun _) = Keeps before after

@@ -15,6 +15,7 @@ IsServed before after text number (Err (fault.Write line)) =
 IsServed before after text number (Err (fault.NoMemory line _)) = (line ≡ number) × (after ≡ before)
 IsServed before after text number (Err (fault.Read line)) = ⊥
 IsServed before after text number (Err (fault.TooManyReads line)) = ⊥
+IsServed before after text number (Err (fault.Unbegun _)) = ⊥
 
 -- only where the writer failed is there one fault more
 abbrev pub CountsServed : ℕ → ℕ → Result ⊤ DeskFault → Type 0
@@ -23,3 +24,4 @@ CountsServed old new (Err (fault.Write line)) = new ≡ one_more old
 CountsServed old new (Err (fault.NoMemory line _)) = new ≡ old
 CountsServed old new (Err (fault.Read line)) = ⊥
 CountsServed old new (Err (fault.TooManyReads line)) = ⊥
+CountsServed old new (Err (fault.Unbegun _)) = ⊥

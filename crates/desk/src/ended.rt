@@ -40,13 +40,10 @@ impl Ended {
     // There was no memory to begin.
     pub(crate) fn unbegun(refused: AllocError) -> Ended
         ensures { result
-            ≡ record { answered = Err (DeskFault.NoMemory 0 witness); witness = None } }
+            ≡ record { answered = Err (DeskFault.Unbegun witness); witness = None } }
     {
         Ended {
-            answered: Err(DeskFault::NoMemory {
-                line: 0,
-                witness: refused.into(),
-            }),
+            answered: Err(DeskFault::Unbegun(refused.into())),
             witness: None,
         }
     }

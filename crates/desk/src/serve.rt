@@ -116,7 +116,7 @@ pub fn desk<H: Handler, R: Read, W: Write>(
         (R.remaining reader.old.inner) (R.remaining reader.new.inner)
         (W.contents writer.old.inner) (W.contents writer.new.inner) result.witness) }
     ensures handled { HasHandled H.meaning office.old office.new }
-    ensures nothing { result.answered ≡ Err (DeskFault.NoMemory 0 witness)
+    ensures nothing { result.answered ≡ Err (DeskFault.Unbegun witness)
         → office.new ≡ office.old }
     ensures read { IfErr result.answered (λ e. (line : ℕ) → e ≡ DeskFault.Read line →
         reader.old.faults < reader.new.faults) }

@@ -88,6 +88,7 @@ fn hand_in(alloc: Global, office: &mut TrialOffice) -> Result<Option<bool>, Fail
     Ok(match end.result {
         Ok(()) => is_submitted(&sink.held),
         Err(DeskFault::NoMemory { line, witness: _ }) => is_submitted_by(line, &sink.held),
+        Err(DeskFault::Unbegun(_)) => is_submitted_by(1, &sink.held),
         Err(_) => None,
     })
 }

@@ -127,11 +127,12 @@ fn each_fault_of_the_desk_has_its_word(rt: HostRuntime) -> Result<(), Fail> {
         (DeskFault::TooManyReads { line: 1 }, "too-many-reads"),
         (
             DeskFault::NoMemory {
-                line: 0,
+                line: 1,
                 witness: NoMemory::told(),
             },
             "memory",
         ),
+        (DeskFault::Unbegun(NoMemory::told()), "memory"),
     ] {
         let text = format!(in rt.alloc(); "{fault}")?;
         assert_eq!(rt; text.as_str(), word);
