@@ -1,10 +1,10 @@
 -- The request of a line, and the set of its roles.
-use Rattle.std.proofs.Common.{le-ltb, ◌≡◌, ℕ, ◌+◌, ◌<◌, ◌≤◌, ◌^◌, List, length, get_or, drop, Option, Some, None, Result, Ok, Err, false, true, option_map, refl, sym, ap, arith, inl, inr}
+use Rattle.std.proofs.Common.{le-ltb, ◌≡◌, ℕ, ◌+◌, ◌<◌, ◌≤◌, ◌^◌, List, length, get_or, drop, Option, Some, None, Result, Ok, Err, option_map, refl, sym, ap, arith, inl, inr}
 use Rattle.std.proofs.lemmas.List.{drop_more, drop_all}
 use Rattle.std.proofs.lemmas.Bool.{cases_Bool}
 use Rattle.std.proofs.lemmas.Nat.Bits.{bit_at_or, same_from_bits}
 use Rattle.std.proofs.lemmas.Str.{IsUtf8-from_is_utf8, is_utf8-from_IsUtf8}
-use Rattle.std.specs.Prelude.{Bool, IsUtf8, option_and_then, cond, if◌then◌else◌}
+use Rattle.std.specs.Prelude.{IsUtf8, option_and_then, cond}
 use Rattle.std.specs.Int.Bits.{or_zero_r}
 use Rattle.std.specs.Int.RustNames.{bit_or}
 use Rattle.std.specs.Str.{is_utf8}
@@ -20,14 +20,10 @@ use Rattle.review_policy.specs.declared.role.Role.{Role}
 use Rattle.json_requests.specs.declared.bad.BadLine.TheVariants as bad
 use Rattle.json_requests.specs.declared.fault.LineFault.{LineFault}
 use Rattle.json_requests.specs.declared.fault.LineFault.TheVariants.{NotJson, NotARequest, NoMemory}
-use Rattle.json_requests.specs.Bodies.{enrol_body}
-use Rattle.json_requests.specs.declared.shape.Shape.TheVariants.{Line, EnrolBody}
-use Rattle.json_requests.specs.declared.kind.Kind.{Kind}
 use Rattle.json_requests.specs.Faults.{Gives, Reads}
-use Rattle.json_requests.specs.Members.{◌>>=◌, roles_of, token_at}
-use Rattle.json_requests.specs.Plain.{PlainAsk, PlainRequest, plain}
-use Rattle.json_requests.specs.Shapes.{has_no_other}
-use Rattle.json_requests.specs.Requests.{ask_at, asked, enrol_at, kind_at, request_at, request_in, request_of, or_not_a_request, value_of}
+use Rattle.json_requests.specs.Members.{◌>>=◌, roles_of}
+use Rattle.json_requests.specs.Plain.{PlainRequest, plain}
+use Rattle.json_requests.specs.Requests.{asked, request_at, request_in, request_of, or_not_a_request, value_of}
 
 -- ---- the value of a line
 
@@ -79,34 +75,3 @@ roles_more values i roles v r lt at is =
 
 pub roles_end : (values : List Tree) (i roles : ℕ) → length values ≤ i → option_map (bit_or roles) (roles_of (items_view (drop i values))) ≡ Some roles
 roles_end values i roles ge = rw (drop_all i values ge) (ap (λ x. Some x) (or_zero_r roles))
-
--- ---- a member that is none of the kind
-
-abbrev the_request : List ℕ → PlainAsk → PlainRequest
-the_request token ask = record { token = token; ask = ask }
-
-pub refused_with_another : (d : Data) (kind : Kind) → kind_at d ≡ Some kind → has_no_other (Line kind) d ≡ false → request_at d ≡ None
-unfolding request_at
-refused_with_another d kind is other = rw is (at_last (token_at d) (ask_at kind d) (has_no_other (Line kind) d) other)
-  where
-    at_last : (token : Option (List ℕ)) (ask : Option PlainAsk) (belong : Bool) → belong ≡ false
-        → (token >>= λ t. ask >>= λ a. if belong then Some (the_request t a) else None) ≡ None
-    at_last None ask belong e = refl
-    at_last (Some t) None belong e = refl
-    at_last (Some t) (Some a) belong e = rw e refl
-
-pub enrolled : (d : Data) → has_no_other EnrolBody d ≡ true → enrol_body d ≡ enrol_at d
-unfolding enrol_body
-enrolled d alone = kept (enrol_at d) (has_no_other EnrolBody d) alone
-  where
-    kept : (ask : Option PlainAsk) (belong : Bool) → belong ≡ true → (ask >>= λ a. if belong then Some a else None) ≡ ask
-    kept None belong e = refl
-    kept (Some a) belong e = rw e refl
-
-pub not_enrolled : (d : Data) → has_no_other EnrolBody d ≡ false → enrol_body d ≡ None
-unfolding enrol_body
-not_enrolled d other = left_out (enrol_at d) (has_no_other EnrolBody d) other
-  where
-    left_out : (ask : Option PlainAsk) (belong : Bool) → belong ≡ false → (ask >>= λ a. if belong then Some a else None) ≡ None
-    left_out None belong e = refl
-    left_out (Some a) belong e = rw e refl

@@ -4,6 +4,6 @@ pub mod Kinds
 pub mod Plain
 pub mod Members
 pub mod Requests
-pub mod Shapes
+pub mod Objects
 pub mod Bodies
 pub mod Faults

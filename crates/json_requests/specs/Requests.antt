@@ -8,13 +8,11 @@ use Rattle.review_policy.specs.declared.ask.ProfileName.{ProfileName}
 use Rattle.review_policy.specs.declared.ask.Request.{Request}
 use Rattle.json_requests.specs.declared.bad.BadLine.{BadLine}
 use Rattle.json_requests.specs.declared.bad.BadLine.TheVariants as bad
-use Rattle.json_requests.specs.declared.kind.Kind.{Kind}
-use Rattle.json_requests.specs.declared.kind.Kind.TheVariants as kinds
-use Rattle.json_requests.specs.Kinds.{kind_of}
+use Rattle.json_requests.specs.Kinds.{Kind, kind_of, line_members, members_of}
+use Rattle.json_requests.specs.Kinds as kinds
 use Rattle.json_requests.specs.Members.{◌>>=◌, text_at, word_at, token_at, name_at, revision_at}
 use Rattle.json_requests.specs.Members.{digest_at, vote_at, roles_at, before_at}
-use Rattle.json_requests.specs.Shapes.{has_no_other}
-use Rattle.json_requests.specs.declared.shape.Shape.TheVariants.{Line}
+use Rattle.json_requests.specs.Objects.{has_no_other}
 use Rattle.json_requests.specs.Plain.{PlainAsk, PlainRequest, plain, enrol, submit, vote, list}
 use Rattle.json_requests.specs.Plain.{act_on_revision, see_revision, act_on_profile, see_profile}
 use Rattle.json_requests.specs.Plain.{me, revisions}
@@ -69,16 +67,16 @@ revisions_at d = do
   Some (revisions name before)
 
 abbrev pub ask_at : Kind → Data → Option PlainAsk
-ask_at kinds.Enrol d = enrol_at d
-ask_at kinds.Submit d = submit_at d
-ask_at kinds.Vote d = vote_on d
-ask_at (kinds.ActOnRevision act) d = of_revision (act_on_revision act) d
-ask_at (kinds.SeeRevision view) d = of_revision (see_revision view) d
-ask_at kinds.List d = list_at d
-ask_at (kinds.ActOnProfile act) d = of_profile (act_on_profile act) d
-ask_at (kinds.SeeProfile view) d = of_profile (see_profile view) d
-ask_at kinds.Me d = Some me
-ask_at kinds.Revisions d = revisions_at d
+ask_at kinds.enrol d = enrol_at d
+ask_at kinds.submit d = submit_at d
+ask_at kinds.vote d = vote_on d
+ask_at (kinds.act_on_revision act) d = of_revision (act_on_revision act) d
+ask_at (kinds.see_revision view) d = of_revision (see_revision view) d
+ask_at kinds.list d = list_at d
+ask_at (kinds.act_on_profile act) d = of_profile (act_on_profile act) d
+ask_at (kinds.see_profile view) d = of_profile (see_profile view) d
+ask_at kinds.me d = Some me
+ask_at kinds.revisions d = revisions_at d
 
 -- ---- a whole line
 
@@ -86,13 +84,20 @@ ask_at kinds.Revisions d = revisions_at d
 unfoldable pub kind_at : Data → Option Kind
 kind_at d = option_and_then kind_of (text_at (codes "ask") d)
 
--- an object with just `ask`, `token` and the members of its kind, each of its form
+-- what a line of this kind asks for: an object with just `ask`, `token` and the members of the
+-- kind, each of its form
+abbrev pub ask_by : Data → Kind → Option PlainAsk
+ask_by d kind = if has_no_other (line_members (members_of kind)) d then ask_at kind d else None
+
+-- what a line asks for
+unfoldable pub ask_in : Data → Option PlainAsk
+ask_in d = option_and_then (ask_by d) (kind_at d)
+
 unfoldable pub request_at : Data → Option PlainRequest
 request_at d = do
-  kind ← kind_at d
   token ← token_at d
-  ask ← ask_at kind d
-  if has_no_other (Line kind) d then Some (record { token = token; ask = ask }) else None
+  ask ← ask_in d
+  Some (record { token = token; ask = ask })
 
 -- the value that a line is, as JSON
 abbrev pub value_of : List ℕ → Option Data

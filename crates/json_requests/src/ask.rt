@@ -1,38 +1,94 @@
 //! What a line asks for, by its kind.
 
-ghost use Rattle.std.specs.Prelude.{ℕ};
+ghost use Rattle.std.specs.Prelude.{ℕ, None, if◌then◌else◌, option_and_then};
 ghost use Rattle.json_tree.specs.View.{view};
 ghost use Rattle.review_policy.specs.declared.ask.ProfileName.{ProfileName};
 ghost use Rattle.json_requests.specs.Faults.{Gives};
-ghost use Rattle.json_requests.specs.Plain.{PlainAsk, plain_ask, act_on_profile, act_on_revision};
-ghost use Rattle.json_requests.specs.Plain.{see_profile, see_revision};
-ghost use Rattle.json_requests.specs.Requests.{ask_at, enrol_at, submit_at, vote_on, of_revision};
-ghost use Rattle.json_requests.specs.Requests.{list_at, of_profile, revisions_at};
+ghost use Rattle.json_requests.specs.Kinds.{kind_among, kind_of, line_members, profile_members};
+ghost use Rattle.json_requests.specs.Kinds.{revision_members, subject_kinds};
+ghost use Rattle.json_requests.specs.Kinds as kinds;
+ghost use Rattle.json_requests.specs.Members.{name_at};
+ghost use Rattle.json_requests.specs.Objects.{has_no_other};
+ghost use Rattle.json_requests.specs.Plain.{PlainAsk, plain_ask};
+ghost use Rattle.json_requests.specs.Requests.{ask_by, ask_in, enrol_at, submit_at, vote_on};
+ghost use Rattle.json_requests.specs.Requests.{list_at, of_revision, revisions_at};
 
 use crate::fault::LineFault;
-use crate::kind::Kind;
 use crate::member::{
-    before_of, digest_of, document_of, name_of, revision_of, roles_of, vote_of, word_of,
+    before_of, digest_of, document_of, name_of, revision_of, roles_of, text_of, vote_of, word_of,
 };
+use crate::object::only;
 use json_tree::Tree;
 use review_policy::{Ask, ProfileAct, ProfileName, ProfileView, RevisionAct, RevisionView};
 use std::alloc::Global;
 
-/// What a line of this kind asks for.
-pub(crate) fn ask_of(alloc: Global, kind: Kind, value: &Tree<'_>) -> Result<Ask, LineFault>
-    ensures { Gives plain_ask result (ask_at kind (view value.now)) }
+/// What a line asks for, by the word under its `ask`.
+#[tactic(auto, unfolding(crate::specs::Requests::ask_in, crate::specs::Requests::kind_at))]
+pub(crate) fn ask_of(alloc: Global, value: &Tree<'_>) -> Result<Ask, LineFault>
+    ensures { Gives plain_ask result (ask_in (view value.now)) }
 {
-    match kind {
-        Kind::Enrol => enrol_of(alloc, value),
-        Kind::Submit => submit_of(alloc, value),
-        Kind::Vote => vote_on(alloc, value),
-        Kind::ActOnRevision(act) => act_on_revision(alloc, act, value),
-        Kind::SeeRevision(view) => see_revision(alloc, view, value),
-        Kind::List => list_of(alloc, value),
-        Kind::ActOnProfile(act) => act_on_profile(alloc, act, value),
-        Kind::SeeProfile(view) => see_profile(alloc, view, value),
-        Kind::Me => Ok(Ask::Me),
-        Kind::Revisions => revisions_of(alloc, value),
+    match text_of(value, "ask") {
+        Some(word) => ask_named(alloc, word, value),
+        None => Err(LineFault::NotARequest),
+    }
+}
+
+// What a line of the kind of this word asks for, which has just the members of that kind.
+fn ask_named(alloc: Global, word: &str, value: &Tree<'_>) -> Result<Ask, LineFault>
+    ensures { Gives plain_ask result
+        (option_and_then (ask_by (view value.now)) (kind_of word.now)) }
+{
+    match word {
+        "enrol" => {
+            only(&["ask", "token", "user", "team", "roles", "digest"], value)?;
+            enrol_of(alloc, value)
+        }
+        "submit" => {
+            only(&["ask", "token", "team", "profile", "document"], value)?;
+            submit_of(alloc, value)
+        }
+        "vote" => {
+            only(
+                &[
+                    "ask", "token", "team", "profile", "revision", "digest", "vote",
+                ],
+                value,
+            )?;
+            vote_on(alloc, value)
+        }
+        "list" => {
+            only(&["ask", "token", "team"], value)?;
+            list_of(alloc, value)
+        }
+        "me" => {
+            only(&["ask", "token"], value)?;
+            Ok(Ask::Me)
+        }
+        "revisions" => {
+            only(&["ask", "token", "team", "profile", "before"], value)?;
+            revisions_of(alloc, value)
+        }
+        _ => on_subject(alloc, word, value),
+    }
+}
+
+// What a line asks for by the word of an act or a view.
+fn on_subject(alloc: Global, word: &str, value: &Tree<'_>) -> Result<Ask, LineFault>
+    ensures { Gives plain_ask result
+        (option_and_then (ask_by (view value.now)) (kind_among subject_kinds word.now)) }
+{
+    if let Some(act) = RevisionAct::from_word(word) {
+        return act_on_revision(alloc, act, value);
+    }
+    if let Some(view) = RevisionView::from_word(word) {
+        return see_revision(alloc, view, value);
+    }
+    if let Some(act) = ProfileAct::from_word(word) {
+        return act_on_profile(alloc, act, value);
+    }
+    match ProfileView::from_word(word) {
+        Some(view) => see_profile(alloc, view, value),
+        None => Err(LineFault::NotARequest),
     }
 }
 
@@ -85,19 +141,22 @@ fn list_of(alloc: Global, value: &Tree<'_>) -> Result<Ask, LineFault>
     Ok(Ask::List { team })
 }
 
-// The revision that is named.
+// The revision that a line names with no other member.
 #[tactic(auto, unfolding(crate::specs::Requests::of_revision))]
 fn revision_named(alloc: Global, value: &Tree<'_>) -> Result<(ProfileName, u32), LineFault>
     ensures { (ask : ProfileName → ℕ → PlainAsk) →
-        Gives (λ named. ask named.0 named.1) result (of_revision ask (view value.now)) }
+        Gives (λ named. ask named.0 named.1) result
+        (if has_no_other (line_members revision_members) (view value.now)
+        then of_revision ask (view value.now) else None) }
 {
+    only(&["ask", "token", "team", "profile", "revision"], value)?;
     let name = name_of(alloc, value)?;
     let revision = revision_of(value)?;
     Ok((name, revision))
 }
 
 fn act_on_revision(alloc: Global, act: RevisionAct, value: &Tree<'_>) -> Result<Ask, LineFault>
-    ensures { Gives plain_ask result (of_revision (act_on_revision act) (view value.now)) }
+    ensures { Gives plain_ask result (ask_by (view value.now) (kinds.act_on_revision act)) }
 {
     let (name, revision) = revision_named(alloc, value)?;
     Ok(Ask::ActOnRevision {
@@ -108,7 +167,7 @@ fn act_on_revision(alloc: Global, act: RevisionAct, value: &Tree<'_>) -> Result<
 }
 
 fn see_revision(alloc: Global, seen: RevisionView, value: &Tree<'_>) -> Result<Ask, LineFault>
-    ensures { Gives plain_ask result (of_revision (see_revision seen) (view value.now)) }
+    ensures { Gives plain_ask result (ask_by (view value.now) (kinds.see_revision seen)) }
 {
     let (name, revision) = revision_named(alloc, value)?;
     Ok(Ask::SeeRevision {
@@ -118,19 +177,29 @@ fn see_revision(alloc: Global, seen: RevisionView, value: &Tree<'_>) -> Result<A
     })
 }
 
+// The profile that a line names with no other member.
+fn profile_named(alloc: Global, value: &Tree<'_>) -> Result<ProfileName, LineFault>
+    ensures { Gives (λ name. name) result
+        (if has_no_other (line_members profile_members) (view value.now)
+        then name_at (view value.now) else None) }
+{
+    only(&["ask", "token", "team", "profile"], value)?;
+    name_of(alloc, value)
+}
+
 #[tactic(auto, unfolding(crate::specs::Requests::of_profile))]
 fn act_on_profile(alloc: Global, act: ProfileAct, value: &Tree<'_>) -> Result<Ask, LineFault>
-    ensures { Gives plain_ask result (of_profile (act_on_profile act) (view value.now)) }
+    ensures { Gives plain_ask result (ask_by (view value.now) (kinds.act_on_profile act)) }
 {
-    let name = name_of(alloc, value)?;
+    let name = profile_named(alloc, value)?;
     Ok(Ask::ActOnProfile { act, name })
 }
 
 #[tactic(auto, unfolding(crate::specs::Requests::of_profile))]
 fn see_profile(alloc: Global, seen: ProfileView, value: &Tree<'_>) -> Result<Ask, LineFault>
-    ensures { Gives plain_ask result (of_profile (see_profile seen) (view value.now)) }
+    ensures { Gives plain_ask result (ask_by (view value.now) (kinds.see_profile seen)) }
 {
-    let name = name_of(alloc, value)?;
+    let name = profile_named(alloc, value)?;
     Ok(Ask::SeeProfile { view: seen, name })
 }
 

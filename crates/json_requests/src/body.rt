@@ -9,7 +9,7 @@ ghost use Rattle.json_requests.specs.Requests.{value_of};
 use crate::ask::enrol_of;
 use crate::fault::LineFault;
 use crate::member::{digest_of, vote_of};
-use crate::shape::{Shape, has_no_other};
+use crate::object::only;
 use json_tree::{ReadFault, Scratch, Tree};
 use review_policy::{Ask, ProfileName};
 use std::alloc::Global;
@@ -34,11 +34,8 @@ fn value_of<'a>(
 fn enrol_at(alloc: Global, value: &Tree<'_>) -> Result<Ask, LineFault>
     ensures { Gives plain_ask result (enrol_body (view value.now)) }
 {
-    if has_no_other(Shape::EnrolBody, value) {
-        enrol_of(alloc, value)
-    } else {
-        Err(LineFault::NotARequest)
-    }
+    only(&["user", "team", "roles", "digest"], value)?;
+    enrol_of(alloc, value)
 }
 
 // The vote on a revision that a value is.
@@ -48,16 +45,13 @@ fn vote_at(name: ProfileName, revision: u32, value: &Tree<'_>) -> Result<Ask, Li
 {
     let digest = digest_of(value)?;
     let approve = vote_of(value)?;
-    if has_no_other(Shape::VoteBody, value) {
-        Ok(Ask::Vote {
-            name,
-            revision,
-            digest,
-            approve,
-        })
-    } else {
-        Err(LineFault::NotARequest)
-    }
+    only(&["digest", "vote"], value)?;
+    Ok(Ask::Vote {
+        name,
+        revision,
+        digest,
+        approve,
+    })
 }
 
 /// The enrolment that a body asks: an object of just `user`, `team`, `roles` and `digest`, each as

@@ -4,45 +4,23 @@ ghost use Rattle.std.specs.Prelude.{◌≤◌, length};
 ghost use Rattle.json_tree.specs.View.{view};
 ghost use Rattle.json_requests.specs.Faults.{Gives, Reads};
 ghost use Rattle.json_requests.specs.Plain.{plain};
-ghost use Rattle.json_requests.specs.Requests.{asked, kind_at, request_at, request_in};
+ghost use Rattle.json_requests.specs.Requests.{asked, request_at, request_in};
 
 use crate::ask::ask_of;
 use crate::fault::LineFault;
-use crate::kind::Kind;
 use crate::member::token_of;
-use crate::shape::{Shape, has_no_other};
 use json_tree::{ReadFault, Scratch, Tree};
 use review_policy::Request;
 use std::alloc::Global;
-
-// The kind that a line names.
-#[tactic(auto, unfolding(crate::specs::Requests::kind_at))]
-fn kind_of(value: &Tree<'_>) -> Result<Kind, LineFault>
-    ensures { Gives (λ kind. kind) result (kind_at (view value.now)) }
-{
-    match value
-        .get("ask")
-        .and_then(Tree::as_str)
-        .and_then(Kind::from_word)
-    {
-        Some(kind) => Ok(kind),
-        None => Err(LineFault::NotARequest),
-    }
-}
 
 // The request that a value is.
 #[tactic(auto, unfolding(crate::specs::Requests::request_at))]
 fn request_of(alloc: Global, value: &Tree<'_>) -> Result<Request, LineFault>
     ensures { Gives plain result (request_at (view value.now)) }
 {
-    let kind = kind_of(value)?;
-    if has_no_other(Shape::Line(kind), value) {
-        let token = token_of(alloc, value)?;
-        let ask = ask_of(alloc, kind, value)?;
-        Ok(Request { token, ask })
-    } else {
-        Err(LineFault::NotARequest)
-    }
+    let token = token_of(alloc, value)?;
+    let ask = ask_of(alloc, value)?;
+    Ok(Request { token, ask })
 }
 
 /// The request of a line, which is passed without its line feed. The length of the line isn't
