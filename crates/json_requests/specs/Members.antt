@@ -8,6 +8,7 @@ use Rattle.serde_json.specs.Find.{get, as_str, as_number, as_u64, as_array}
 use Rattle.review_policy.specs.Digests.{digest_from_hex}
 use Rattle.review_policy.specs.Words.{is_word, is_token}
 use Rattle.review_policy.specs.Role.{place_of}
+use Rattle.review_policy.specs.Rules.{max_revisions}
 use Rattle.review_policy.specs.WordTables.{role_of}
 use Rattle.review_policy.specs.declared.ask.ProfileName.{ProfileName}
 
@@ -47,7 +48,7 @@ whole_at name d = option_and_then as_u64 (option_and_then as_number (get name d)
 
 -- the number of a revision: 1 to 9,999
 abbrev pub if_revision : ℕ → Option ℕ
-if_revision n = if nat_le 1 n && nat_le n 9999 then Some n else None
+if_revision n = if nat_le 1 n && nat_le n max_revisions then Some n else None
 
 unfoldable pub revision_at : Data → Option ℕ
 revision_at d = option_and_then if_revision (whole_at (codes "revision") d)

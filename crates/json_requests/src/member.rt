@@ -11,7 +11,9 @@ ghost use Rattle.json_requests.specs.Members.{before_at, if_revision};
 
 use crate::fault::LineFault;
 use json_tree::Tree;
-use review_policy::{ProfileName, Role, Roles, Token, Word, WordFault, digest_from_hex};
+use review_policy::{
+    MAX_REVISIONS, ProfileName, Role, Roles, Token, Word, WordFault, digest_from_hex,
+};
 use std::alloc::Global;
 
 /// The text under a name; `None` where there is none.
@@ -68,7 +70,7 @@ fn number_of(number: Option<u64>) -> Result<u32, LineFault>
     match number {
         None => Err(LineFault::NotARequest),
         Some(number) => {
-            if 1 <= number && number <= 9999 {
+            if 1 <= number && number <= MAX_REVISIONS as u64 {
                 Ok(number as u32)
             } else {
                 Err(LineFault::NotARequest)
