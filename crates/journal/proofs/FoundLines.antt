@@ -1,5 +1,5 @@
 -- What was written of a line is found in it.
-use Rattle.std.proofs.Common.{◌≡◌, ℕ, zero, suc, ◌/◌, ◌%◌, ◌^◌, ◌<◌, List, [], ◌∷◌, All, Some, None, Bool, true, false, refl, arith, map, slice_index}
+use Rattle.std.proofs.Common.{◌≡◌, ◌∙◌, ℕ, zero, suc, ◌/◌, ◌%◌, ◌^◌, ◌<◌, List, [], ◌∷◌, All, Some, None, Bool, true, false, refl, arith, map, slice_index}
 use Rattle.std.specs.Prelude.{◌&&◌, nat_le}
 use Rattle.std.specs.List.{list_all}
 use Rattle.std.proofs.lemmas.Bool.Decides.{nat_tests}
@@ -13,6 +13,7 @@ use Rattle.cap_sets.specs.Capability.{names_of}
 use Rattle.profile_text.proofs.ListedNames.{names_listed}
 use Rattle.profile_text.proofs.NameFacts.{listed_set}
 use Rattle.profile_text.specs.Sets.{caps_of}
+use Rattle.review_policy.specs.Acts.{profile_act_word, revision_act_word}
 use Rattle.review_policy.specs.Digests.{digest_from_hex, is_lower_digit}
 use Rattle.review_policy.specs.declared.act.ProfileAct.{ProfileAct}
 use Rattle.review_policy.specs.declared.act.RevisionAct.{RevisionAct}
@@ -20,13 +21,11 @@ use Rattle.review_policy.specs.declared.ask.ProfileName.{ProfileName}
 use Rattle.json_requests.specs.Members.{approves as vote_of, digest_at, if_revision, name_at, revision_at, roles_at, vote_at, word_at}
 use Rattle.office_policy.specs.Formed.{IsWord, IsDigest, IsName, IsNumber}
 use Rattle.office_policy.specs.History.{founded, enrolled, submitted, voted, on_revision, on_profile}
-use Rattle.journal.specs.declared.kind.Kind.{Kind}
-use Rattle.journal.specs.declared.kind.Kind.TheVariants as kinds
 use Rattle.journal.specs.Forms.{IsFormed}
 use Rattle.review_sheet.specs.Review.{vote_word}
 use Rattle.journal.specs.Lines.{Line, happened, strike, done, line_data, of_profile, of_revision}
 use Rattle.journal.specs.Read.{acted_on_profile_at, acted_on_revision_at, done_at, caller_at, candidate_at, enrolled_at, founded_at, listed_at, submitted_at, voted_at}
-use Rattle.journal.proofs.KindFacts.{kind_back}
+use Rattle.journal.proofs.ActFacts.{profile_act_back, revision_act_back}
 use Rattle.journal.proofs.RoleFacts.{roles_back}
 use Rattle.journal.proofs.Tables.{each_below}
 
@@ -76,15 +75,15 @@ listed_back listed known = listed_set (items_of (map string (names_of listed))) 
 
 -- ---- lines
 
-of_act_on_profile : (act : ProfileAct) (kind : Kind) (caller : List ℕ) (p : ProfileName) → IsWord caller → IsName p
-    → acted_on_profile_at act (of_profile None kind caller p) ≡ Some (happened (on_profile caller act p))
+of_act_on_profile : (act : ProfileAct) (word caller : List ℕ) (p : ProfileName) → IsWord caller → IsName p
+    → acted_on_profile_at act (of_profile None word caller p) ≡ Some (happened (on_profile caller act p))
 unfolding acted_on_profile_at caller_at word_at name_at
-of_act_on_profile act kind caller p is_caller is_name = rw (is_caller, is_name.0, is_name.1) refl
+of_act_on_profile act word caller p is_caller is_name = rw (is_caller, is_name.0, is_name.1) refl
 
-of_act_on_revision : (act : RevisionAct) (kind : Kind) (caller : List ℕ) (p : ProfileName) (n : ℕ) → IsWord caller → IsName p → IsNumber n
-    → acted_on_revision_at act (of_revision None kind caller p n None) ≡ Some (happened (on_revision caller act p n))
+of_act_on_revision : (act : RevisionAct) (word caller : List ℕ) (p : ProfileName) (n : ℕ) → IsWord caller → IsName p → IsNumber n
+    → acted_on_revision_at act (of_revision None word caller p n None) ≡ Some (happened (on_revision caller act p n))
 unfolding acted_on_revision_at caller_at word_at name_at revision_at
-of_act_on_revision act kind caller p n is_caller is_name is_number = rw (is_caller, is_name.0, is_name.1, number_back n is_number) refl
+of_act_on_revision act word caller p n is_caller is_name is_number = rw (is_caller, is_name.0, is_name.1, number_back n is_number) refl
 
 founding : (name team digest : List ℕ) (listed : ℕ) → IsFormed (happened (founded name team digest listed))
     → founded_at (line_data (happened (founded name team digest listed))) ≡ Some (happened (founded name team digest listed))
@@ -118,8 +117,8 @@ found (happened (enrolled caller name team roles digest)) h = enrolment caller n
 found (happened (submitted caller p text)) h = submission caller p text h
 found (happened (voted caller p n digest approves)) h = vote caller p n digest approves h
 found (happened (on_revision caller act p n)) h =
-    rw (kind_back (kinds.ActOnRevision act)) (of_act_on_revision act (kinds.ActOnRevision act) caller p n h.0 h.1 h.2)
+    revision_act_back act (line_data (happened (on_revision caller act p n))) ∙ of_act_on_revision act (revision_act_word act) caller p n h.0 h.1 h.2
 found (happened (on_profile caller act p)) h =
-    rw (kind_back (kinds.ActOnProfile act)) (of_act_on_profile act (kinds.ActOnProfile act) caller p h.0 h.1)
+    profile_act_back act (line_data (happened (on_profile caller act p))) ∙ of_act_on_profile act (profile_act_word act) caller p h.0 h.1
 found strike h = refl
 found (done n) h = settled n

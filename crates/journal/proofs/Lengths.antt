@@ -16,6 +16,7 @@ use Rattle.cap_sets.specs.Capability.{cap_names, names_from, names_of}
 use Rattle.profile_text.proofs.ReadsFacts.{reads_from}
 use Rattle.profile_text.specs.Reading.{reading_of}
 use Rattle.profile_text.specs.declared.profile.Profile.{Profile}
+use Rattle.review_policy.specs.Acts.{profile_act_word, revision_act_word}
 use Rattle.review_policy.specs.Role.{has_role}
 use Rattle.review_policy.specs.WordTables.{all_roles, role_word}
 use Rattle.review_policy.specs.Words.{is_word, is_word_byte}
@@ -27,14 +28,12 @@ use Rattle.review_policy.specs.declared.ask.ProfileName.{ProfileName}
 use Rattle.office_policy.specs.Formed.{IsName, IsNumber, IsWord}
 use Rattle.office_policy.specs.History.{Event, History, did, founded, enrolled, submitted, voted, on_revision, on_profile}
 use Rattle.office_policy.specs.Lawful.{IsAllowed, IsFounding}
-use Rattle.journal.specs.declared.kind.Kind.{Kind}
-use Rattle.journal.specs.declared.kind.Kind.TheVariants as kinds
 use Rattle.office_policy.specs.EventForms.{HasForms}
 use Rattle.journal.specs.Forms.{IsFormed}
 use Rattle.journal.specs.Journal.{IsEntry}
 use Rattle.review_sheet.specs.Review.{vote_word}
 use Rattle.journal.specs.Lines.{Line, happened, strike, done, line_data, of_profile, of_revision, role_words, text_of, words_among}
-use Rattle.journal.proofs.KindFacts.{kind_room}
+use Rattle.journal.proofs.ActFacts.{profile_act_room, revision_act_room}
 use Rattle.journal.proofs.NoFeeds.{HasSmall, ItemsHaveSmall, MembersHaveSmall, line_small, no_feed}
 use Rattle.journal.proofs.Tables.{holds_below, each_below}
 
@@ -209,29 +208,38 @@ user_key = refl
 vote_key : length (codes "vote") ≡ 4
 vote_key = refl
 
-of_profile_fits : (kind : Kind) (caller : List ℕ) (p : ProfileName) → IsWord caller → IsName p → room (of_profile None kind caller p) ≤ 3000
-of_profile_fits kind caller p who name =
+found_word : length (codes "found") ≡ 5
+found_word = refl
+
+enrol_word : length (codes "enrol") ≡ 5
+enrol_word = refl
+
+submit_word : length (codes "submit") ≡ 6
+submit_word = refl
+
+of_profile_fits : (word caller : List ℕ) (p : ProfileName) → length word ≤ 8 → IsWord caller → IsName p → room (of_profile None word caller p) ≤ 3000
+of_profile_fits word caller p short who name =
     omega (
       arith,
       word_room caller who,
       word_room p.team name.0,
       word_room p.profile name.1,
-      kind_room kind,
+      short,
       by_key,
       event_key,
       profile_key,
       team_key,
     )
 
-of_revision_fits : (kind : Kind) (caller : List ℕ) (p : ProfileName) (n : ℕ) → IsWord caller → IsName p → IsNumber n → room (of_revision None kind caller p n None) ≤ 20000
-of_revision_fits kind caller p n who name numbered =
+of_revision_fits : (word caller : List ℕ) (p : ProfileName) (n : ℕ) → length word ≤ 8 → IsWord caller → IsName p → IsNumber n → room (of_revision None word caller p n None) ≤ 20000
+of_revision_fits word caller p n short who name numbered =
     omega (
       arith,
       word_room caller who,
       word_room p.team name.0,
       word_room p.profile name.1,
       number_room n numbered,
-      kind_room kind,
+      short,
       by_key,
       event_key,
       profile_key,
@@ -254,7 +262,7 @@ fits (founded name team digest listed) h short =
       digest_room digest,
       h.2.0,
       names_room listed,
-      kind_room kinds.Found,
+      found_word,
       digest_key,
       event_key,
       listed_key,
@@ -270,7 +278,7 @@ fits (enrolled caller name team roles digest) h short =
       roles_room roles,
       digest_room digest,
       h.4.0,
-      kind_room kinds.Enrol,
+      enrol_word,
       by_key,
       digest_key,
       event_key,
@@ -285,7 +293,7 @@ fits (submitted caller p text) h short =
       word_room p.team h.1.0,
       word_room p.profile h.1.1,
       short,
-      kind_room kinds.Submit,
+      submit_word,
       by_key,
       document_key,
       event_key,
@@ -302,7 +310,6 @@ fits (voted caller p n digest approves) h short =
       digest_room digest,
       h.3.0,
       vote_room approves,
-      kind_room kinds.Vote,
       by_key,
       digest_key,
       event_key,
@@ -311,8 +318,8 @@ fits (voted caller p n digest approves) h short =
       team_key,
       vote_key,
     )
-fits (on_revision caller act p n) h short = let most = of_revision_fits (kinds.ActOnRevision act) caller p n h.0 h.1 h.2 in omega (arith, most)
-fits (on_profile caller act p) h short = let most = of_profile_fits (kinds.ActOnProfile act) caller p h.0 h.1 in omega (arith, most)
+fits (on_revision caller act p n) h short = let most = of_revision_fits (revision_act_word act) caller p n (revision_act_room act) h.0 h.1 h.2 in omega (arith, most)
+fits (on_profile caller act p) h short = let most = of_profile_fits (profile_act_word act) caller p (profile_act_room act) h.0 h.1 in omega (arith, most)
 
 -- ---- lines
 

@@ -1,6 +1,6 @@
 pub mod Tables
 pub mod RoleFacts
-pub mod KindFacts
+pub mod ActFacts
 pub mod TextFacts
 pub mod PrintedLines
 pub mod FoundLines

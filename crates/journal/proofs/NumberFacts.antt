@@ -3,18 +3,17 @@ use Rattle.std.proofs.Common.{◌≡◌, ℕ, List, Option, Some, None, Bool, tr
 use Rattle.std.specs.Prelude.{◌&&◌, codes, nat_le, option_and_then}
 use Rattle.std.proofs.lemmas.Bool.{and_parts}
 use Rattle.serde_json.specs.Data.{Data}
+use Rattle.std.specs.Str.{bytes_eq}
+use Rattle.review_policy.specs.Acts.{profile_act_of, revision_act_of}
 use Rattle.review_policy.specs.declared.act.ProfileAct.{ProfileAct}
 use Rattle.review_policy.specs.declared.act.RevisionAct.{RevisionAct}
 use Rattle.json_requests.specs.Members.{◌>>=◌, digest_at, if_revision, name_at, revision_at, roles_at, text_at, vote_at, whole_at, word_at}
 use Rattle.json_requests.specs.Requests.{value_of}
 use Rattle.office_policy.specs.Formed.{IsNumber}
-use Rattle.journal.specs.declared.kind.Kind.{Kind}
-use Rattle.journal.specs.declared.kind.Kind.TheVariants as kinds
 use Rattle.office_policy.specs.EventForms.{HasNumber}
 use Rattle.journal.specs.Forms.{IsNumbered}
-use Rattle.journal.specs.Kinds.{kind_of}
 use Rattle.journal.specs.Lines.{Line, strike}
-use Rattle.journal.specs.Read.{acted_on_profile_at, acted_on_revision_at, caller_at, candidate_at, candidate_in, done_at, enrolled_at, founded_at, line_at, listed_at, submitted_at, voted_at}
+use Rattle.journal.specs.Read.{acted_at, acted_on_profile_at, acted_on_revision_at, caller_at, candidate_at, candidate_in, done_at, enrolled_at, founded_at, line_at, listed_at, submitted_at, voted_at}
 
 in_range : (m n : ℕ) → if_revision m ≡ Some n → IsNumber n
 in_range m n found = by_test (nat_le 1 m && nat_le m 9999) refl found
@@ -86,19 +85,28 @@ settled : (d : Data) → AllNumbered (done_at d)
 unfolding done_at
 settled d = after (whole_at (codes "of") d) _ (λ n is. one_found _ tt)
 
-by_kind : (kind : Kind) (d : Data) → AllNumbered (line_at kind d)
-by_kind kinds.Found d = founding d
-by_kind kinds.Enrol d = enrolment d
-by_kind kinds.Submit d = submission d
-by_kind kinds.Vote d = vote d
-by_kind (kinds.ActOnRevision act) d = on_revision act d
-by_kind (kinds.ActOnProfile act) d = on_profile act d
-by_kind kinds.Strike d = one_found strike tt
-by_kind kinds.Done d = settled d
+by_act : (of_revision : Option RevisionAct) (of_profile : Option ProfileAct) (d : Data) → AllNumbered (acted_at of_revision of_profile d)
+by_act (Some act) of_profile d = on_revision act d
+by_act None (Some act) d = on_profile act d
+by_act None None d = none_found
+
+either : (b : Bool) (x y : Option Line) → AllNumbered x → AllNumbered y → AllNumbered (cond b x y)
+either true x y first second = first
+either false x y first second = second
+
+by_word : (word : List ℕ) (d : Data) → AllNumbered (line_at word d)
+by_word word d =
+    either (bytes_eq word (codes "found")) _ _ (founding d)
+    (either (bytes_eq word (codes "enrol")) _ _ (enrolment d)
+    (either (bytes_eq word (codes "submit")) _ _ (submission d)
+    (either (bytes_eq word (codes "vote")) _ _ (vote d)
+    (either (bytes_eq word (codes "strike")) _ _ (one_found strike tt)
+    (either (bytes_eq word (codes "done")) _ _ (settled d)
+    (by_act (revision_act_of word) (profile_act_of word) d))))))
 
 in_object : (d : Data) → AllNumbered (candidate_at d)
 unfolding candidate_at
-in_object d = after (option_and_then kind_of (text_at (codes "event") d)) _ (λ kind is. by_kind kind d)
+in_object d = after (text_at (codes "event") d) _ (λ word is. by_word word d)
 
 pub numbered : (text : List ℕ) (l : Line) → candidate_in text ≡ Some l → IsNumbered l
 unfolding candidate_in

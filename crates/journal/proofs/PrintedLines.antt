@@ -18,6 +18,7 @@ use Rattle.serde_json.specs.Written.{outline}
 use Rattle.cap_sets.specs.Capability.{cap_names, names_from, names_of}
 use Rattle.profile_text.proofs.Printing.{MembersPrint, Prints, deeper, end_prints, list_prints, member_prints, number_prints, object_prints, text_prints}
 use Rattle.profile_text.specs.Text.{set_data, texts_data}
+use Rattle.review_policy.specs.Acts.{profile_act_word, revision_act_word}
 use Rattle.review_policy.specs.Role.{has_role}
 use Rattle.review_policy.specs.Words.{is_word, is_word_byte}
 use Rattle.review_policy.specs.WordTables.{all_roles, role_word}
@@ -26,13 +27,10 @@ use Rattle.review_policy.specs.declared.role.Role.{Role}
 use Rattle.review_policy.specs.declared.role.Role.TheVariants.{Registrar, Author, Reviewer, Security, Issuer, Machine}
 use Rattle.office_policy.specs.Formed.{IsWord, IsName, IsNumber}
 use Rattle.office_policy.specs.History.{founded, enrolled, submitted, voted, on_revision, on_profile}
-use Rattle.journal.specs.declared.kind.Kind.{Kind}
-use Rattle.journal.specs.declared.kind.Kind.TheVariants as kinds
 use Rattle.journal.specs.Forms.{IsFormed}
-use Rattle.journal.specs.Kinds.{kind_word}
 use Rattle.review_sheet.specs.Review.{vote_word}
 use Rattle.journal.specs.Lines.{Line, happened, strike, done, line_data, of_profile, of_revision, role_words, words_among}
-use Rattle.journal.proofs.KindFacts.{kind_ascii}
+use Rattle.journal.proofs.ActFacts.{profile_act_ascii, revision_act_ascii}
 
 -- ---- parts
 
@@ -55,9 +53,6 @@ ascii_from (x ∷ xs) h = let parts = and_parts _ (are_ascii xs) h in IsAscii-co
 
 digest_utf8 : (digest : List ℕ) → IsUtf8 (encode_lower digest)
 digest_utf8 digest = IsUtf8-from_ascii (encode_lower digest) (IsAscii-encode_with lower_digits digest (ascii_from lower_digits refl))
-
-kind_utf8 : (kind : Kind) → IsUtf8 (kind_word kind)
-kind_utf8 kind = IsUtf8-are_ascii (kind_word kind) (kind_ascii kind)
 
 vote_utf8 : (approves : Bool) → IsUtf8 (vote_word approves)
 vote_utf8 true = IsUtf8-are_ascii (vote_word true) refl
@@ -121,27 +116,31 @@ revision_prints n h = let low = h.0 in let high = h.1 in number_prints n (omega 
 number_part : (name : List ℕ) (n : ℕ) (rest : Members) → are_ascii name ≡ true → IsNumber n → MembersPrint 1 rest → MembersPrint 1 (member name (number (unsigned n)) rest)
 number_part name n rest plain h others = list_part name (number (unsigned n)) rest plain (deeper 0 1 (Some (number (unsigned n))) (lit≤ tt) (revision_prints n h)) others
 
+-- the word of what happened
+word_part : (word : List ℕ) (rest : Members) → are_ascii word ≡ true → MembersPrint 1 rest → MembersPrint 1 (member (codes "event") (string word) rest)
+word_part word rest ascii others = text_part (codes "event") word rest refl (IsUtf8-are_ascii word ascii) others
+
 -- ---- lines
 
-profile_prints : (kind : Kind) (caller : List ℕ) (p : ProfileName) → IsWord caller → IsName p → Prints 2 (of_profile None kind caller p)
-profile_prints kind caller p is_caller is_name =
+profile_prints : (word caller : List ℕ) (p : ProfileName) → are_ascii word ≡ true → IsWord caller → IsName p → Prints 2 (of_profile None word caller p)
+profile_prints word caller p ascii is_caller is_name =
     object_prints 1 _
     (text_part (codes "by") caller _ refl (word_utf8 caller is_caller)
-    (text_part (codes "event") (kind_word kind) _ refl (kind_utf8 kind)
+    (word_part word _ ascii
     (text_part (codes "profile") p.profile _ refl (word_utf8 p.profile is_name.1)
     (text_part (codes "team") p.team no_members refl (word_utf8 p.team is_name.0) (end_prints 1)))))
     refl
 
-revision_back : (kind caller profile team : List ℕ) (n : Data) → of_json (outline n) ≡ Some n
-    → of_json (outline (object (member (codes "by") (string caller) (member (codes "event") (string kind) (member (codes "profile") (string profile) (member (codes "revision") n (member (codes "team") (string team) no_members)))))))
-    ≡ Some (object (member (codes "by") (string caller) (member (codes "event") (string kind) (member (codes "profile") (string profile) (member (codes "revision") n (member (codes "team") (string team) no_members))))))
-revision_back kind caller profile team n is = rw is refl
+revision_back : (word caller profile team : List ℕ) (n : Data) → of_json (outline n) ≡ Some n
+    → of_json (outline (object (member (codes "by") (string caller) (member (codes "event") (string word) (member (codes "profile") (string profile) (member (codes "revision") n (member (codes "team") (string team) no_members)))))))
+    ≡ Some (object (member (codes "by") (string caller) (member (codes "event") (string word) (member (codes "profile") (string profile) (member (codes "revision") n (member (codes "team") (string team) no_members))))))
+revision_back word caller profile team n is = rw is refl
 
-of_revision_prints : (kind : Kind) (caller : List ℕ) (p : ProfileName) (n : ℕ) → IsWord caller → IsName p → IsNumber n → Prints 2 (of_revision None kind caller p n None)
-of_revision_prints kind caller p n is_caller is_name is_number =
+of_revision_prints : (word caller : List ℕ) (p : ProfileName) (n : ℕ) → are_ascii word ≡ true → IsWord caller → IsName p → IsNumber n → Prints 2 (of_revision None word caller p n None)
+of_revision_prints word caller p n ascii is_caller is_name is_number =
     object_prints 1 _
     (text_part (codes "by") caller _ refl (word_utf8 caller is_caller)
-    (text_part (codes "event") (kind_word kind) _ refl (kind_utf8 kind)
+    (word_part word _ ascii
     (text_part (codes "profile") p.profile _ refl (word_utf8 p.profile is_name.1)
     (number_part (codes "revision") n _ refl is_number
     (text_part (codes "team") p.team no_members refl (word_utf8 p.team is_name.0) (end_prints 1))))))
@@ -171,7 +170,7 @@ pub line_prints : (l : Line) → IsFormed l → Prints 2 (line_data l)
 line_prints (happened (founded name team digest listed)) h =
     object_prints 1 _
     (text_part (codes "digest") (encode_lower digest) _ refl (digest_utf8 digest)
-    (text_part (codes "event") (kind_word kinds.Found) _ refl (kind_utf8 kinds.Found)
+    (word_part (codes "found") _ refl
     (list_part (codes "listed") (set_data listed) _ refl (set_prints listed)
     (text_part (codes "team") team _ refl (word_utf8 team h.1)
     (text_part (codes "user") name no_members refl (word_utf8 name h.0) (end_prints 1))))))
@@ -180,7 +179,7 @@ line_prints (happened (enrolled caller name team roles digest)) h =
     object_prints 1 _
     (text_part (codes "by") caller _ refl (word_utf8 caller h.0)
     (text_part (codes "digest") (encode_lower digest) _ refl (digest_utf8 digest)
-    (text_part (codes "event") (kind_word kinds.Enrol) _ refl (kind_utf8 kinds.Enrol)
+    (word_part (codes "enrol") _ refl
     (list_part (codes "roles") (texts_data (role_words roles)) _ refl (roles_print roles)
     (text_part (codes "team") team _ refl (word_utf8 team h.2)
     (text_part (codes "user") name no_members refl (word_utf8 name h.1) (end_prints 1)))))))
@@ -189,7 +188,7 @@ line_prints (happened (submitted caller p text)) h =
     object_prints 1 _
     (text_part (codes "by") caller _ refl (word_utf8 caller h.0)
     (text_part (codes "document") text _ refl h.2
-    (text_part (codes "event") (kind_word kinds.Submit) _ refl (kind_utf8 kinds.Submit)
+    (word_part (codes "submit") _ refl
     (text_part (codes "profile") p.profile _ refl (word_utf8 p.profile h.1.1)
     (text_part (codes "team") p.team no_members refl (word_utf8 p.team h.1.0) (end_prints 1))))))
     refl
@@ -197,17 +196,17 @@ line_prints (happened (voted caller p n digest approves)) h =
     object_prints 1 _
     (text_part (codes "by") caller _ refl (word_utf8 caller h.0)
     (text_part (codes "digest") (encode_lower digest) _ refl (digest_utf8 digest)
-    (text_part (codes "event") (kind_word kinds.Vote) _ refl (kind_utf8 kinds.Vote)
+    (word_part (codes "vote") _ refl
     (text_part (codes "profile") p.profile _ refl (word_utf8 p.profile h.1.1)
     (number_part (codes "revision") n _ refl h.2
     (text_part (codes "team") p.team _ refl (word_utf8 p.team h.1.0)
     (text_part (codes "vote") (vote_word approves) no_members refl (vote_utf8 approves) (end_prints 1))))))))
     (voted_back _ _ _ _ _ _ (revision_prints n h.2).back)
-line_prints (happened (on_revision caller act p n)) h = of_revision_prints (kinds.ActOnRevision act) caller p n h.0 h.1 h.2
-line_prints (happened (on_profile caller act p)) h = profile_prints (kinds.ActOnProfile act) caller p h.0 h.1
-line_prints strike h = object_prints 1 _ (text_part (codes "event") (kind_word kinds.Strike) no_members refl (kind_utf8 kinds.Strike) (end_prints 1)) refl
+line_prints (happened (on_revision caller act p n)) h = of_revision_prints (revision_act_word act) caller p n (revision_act_ascii act) h.0 h.1 h.2
+line_prints (happened (on_profile caller act p)) h = profile_prints (profile_act_word act) caller p (profile_act_ascii act) h.0 h.1
+line_prints strike h = object_prints 1 _ (word_part (codes "strike") no_members refl (end_prints 1)) refl
 line_prints (done n) h =
     object_prints 1 _
-    (text_part (codes "event") (kind_word kinds.Done) _ refl (kind_utf8 kinds.Done)
+    (word_part (codes "done") _ refl
     (list_part (codes "of") (number (unsigned n)) no_members refl (deeper 0 1 (Some (number (unsigned n))) (lit≤ tt) (number_prints n h)) (end_prints 1)))
     (done_back _ (number_prints n h).back)

@@ -12,7 +12,6 @@ use Rattle.json_tree.proofs.Writing.{Leaves, all_tokens, leaves_none}
 use Rattle.review_policy.specs.Role.{has_role}
 use Rattle.review_policy.specs.WordTables.{role_word}
 use Rattle.review_policy.specs.declared.role.Role.{Role}
-use Rattle.journal.specs.declared.kind.Kind.{Kind}
 use Rattle.journal.specs.Lines.{deed_members, kind_members, words_among}
 
 -- ---- members that other members follow
@@ -20,23 +19,23 @@ use Rattle.journal.specs.Lines.{deed_members, kind_members, words_among}
 abbrev rest_tokens : Members → List Token
 rest_tokens ms = members_tokens (members_outline ms)
 
-pub kind_first : (kind : Kind) (line : Option ℕ) (rest : Members) → rest_tokens (kind_members kind line rest) ≡ open_tokens (kind_members kind line no_members) ++ rest_tokens rest
-kind_first kind None rest = refl
-kind_first kind (Some n) rest = refl
+pub kind_first : (word : List ℕ) (line : Option ℕ) (rest : Members) → rest_tokens (kind_members word line rest) ≡ open_tokens (kind_members word line no_members) ++ rest_tokens rest
+kind_first word None rest = refl
+kind_first word (Some n) rest = refl
 
-pub deed_first : (caller : List ℕ) (digest : Option (List ℕ)) (kind : Kind) (line : Option ℕ) (rest : Members)
-    → rest_tokens (deed_members caller digest kind line rest) ≡ open_tokens (deed_members caller digest kind line no_members) ++ rest_tokens rest
-deed_first caller None kind None rest = refl
-deed_first caller None kind (Some n) rest = refl
-deed_first caller (Some digest) kind None rest = refl
-deed_first caller (Some digest) kind (Some n) rest = refl
+pub deed_first : (caller : List ℕ) (digest : Option (List ℕ)) (word : List ℕ) (line : Option ℕ) (rest : Members)
+    → rest_tokens (deed_members caller digest word line rest) ≡ open_tokens (deed_members caller digest word line no_members) ++ rest_tokens rest
+deed_first caller None word None rest = refl
+deed_first caller None word (Some n) rest = refl
+deed_first caller (Some digest) word None rest = refl
+deed_first caller (Some digest) word (Some n) rest = refl
 
--- who did what is a caller, a digest where there is one, and a kind
-pub deed_tokens : {A : Type 0} (f : A → List ℕ) (caller : List ℕ) (digest : Option A) (kind : Kind) (line : Option ℕ)
-    → open_tokens (deed_members caller (option_map f digest) kind line no_members)
-    ≡ Token.key (codes "by") ∷ Token.string caller ∷ (member_tokens (codes "digest") (option_map (λ d. string (encode_lower (f d))) digest) ++ open_tokens (kind_members kind line no_members))
-deed_tokens f caller None kind line = refl
-deed_tokens f caller (Some digest) kind line = refl
+-- who did what is a caller, a digest where there is one, and a word
+pub deed_tokens : {A : Type 0} (f : A → List ℕ) (caller : List ℕ) (digest : Option A) (word : List ℕ) (line : Option ℕ)
+    → open_tokens (deed_members caller (option_map f digest) word line no_members)
+    ≡ Token.key (codes "by") ∷ Token.string caller ∷ (member_tokens (codes "digest") (option_map (λ d. string (encode_lower (f d))) digest) ++ open_tokens (kind_members word line no_members))
+deed_tokens f caller None word line = refl
+deed_tokens f caller (Some digest) word line = refl
 
 -- ---- the words of roles
 

@@ -1,4 +1,3 @@
-pub mod Kinds
 pub mod Lines
 pub mod Forms
 pub mod Shown

@@ -6,6 +6,7 @@ use Rattle.serde_json.specs.Data.{Data, string, number, unsigned, object, Member
 use Rattle.serde_json.specs.Data.{member}
 use Rattle.serde_json.specs.Written.{compact_text}
 use Rattle.profile_text.specs.Text.{member_if, set_data, texts_data}
+use Rattle.review_policy.specs.Acts.{profile_act_word, revision_act_word}
 use Rattle.review_policy.specs.Role.{has_role}
 use Rattle.review_policy.specs.WordTables.{all_roles, role_word}
 use Rattle.review_policy.specs.declared.ask.ProfileName.{ProfileName}
@@ -14,10 +15,6 @@ use Rattle.review_sheet.specs.Review.{vote_word}
 use Rattle.json_requests.specs.Answers.{text_member, number_member, digest_member}
 use Rattle.office_policy.specs.History.{Event, founded, enrolled, submitted, voted}
 use Rattle.office_policy.specs.History.{on_revision, on_profile}
-use Rattle.journal.specs.declared.kind.Kind.{Kind}
-use Rattle.journal.specs.declared.kind.Kind.TheVariants.{Found, Enrol, Submit, Vote}
-use Rattle.journal.specs.declared.kind.Kind.TheVariants.{ActOnRevision, ActOnProfile, Strike, Done}
-use Rattle.journal.specs.Kinds.{kind_word}
 
 -- a line says what happened, or strikes out the event of the line before it, which didn't happen, or
 -- says that this one, which has the number, is carried out
@@ -34,19 +31,20 @@ words_among roles among = map role_word (filter (has_role roles) among)
 abbrev pub role_words : ℕ → List (List ℕ)
 role_words roles = words_among roles all_roles
 
--- the kind of what happened, and where it is told the number of its line
-abbrev pub kind_members : Kind → Option ℕ → Members → Members
-kind_members kind line ms =
-    text_member (codes "event") (kind_word kind)
+-- the word of what happened: that of the request that it was, and of a founding and of a line on the
+-- one before it a word of its own. Where it is told, the number of its line
+abbrev pub kind_members : (word : List ℕ) → (line : Option ℕ) → Members → Members
+kind_members word line ms =
+    text_member (codes "event") word
     (member_if (codes "line") (option_map (λ n. number (unsigned n)) line) ms)
 
 -- who did what, with a digest where there is one
-abbrev pub deed_members : (caller : List ℕ) → Option (List ℕ) → Kind → (line : Option ℕ) → Members
-    → Members
-deed_members caller digest kind line ms =
+abbrev pub deed_members : (caller : List ℕ) → Option (List ℕ) → (word : List ℕ) → (line : Option ℕ)
+    → Members → Members
+deed_members caller digest word line ms =
     text_member (codes "by") caller
     (member_if (codes "digest") (option_map (λ d. string (encode_lower d)) digest)
-    (kind_members kind line ms))
+    (kind_members word line ms))
 
 -- a profile
 abbrev pub profile_members : ProfileName → Members → Members
@@ -64,32 +62,33 @@ abbrev pub user_members : (name team : List ℕ) → Members → Members
 user_members name team ms = text_member (codes "team") team (text_member (codes "user") name ms)
 
 -- what happened to a profile, by this caller
-abbrev pub of_profile : Option ℕ → Kind → List ℕ → ProfileName → Data
-of_profile line kind caller p =
-    object (deed_members caller None kind line (profile_members p no_members))
+abbrev pub of_profile : Option ℕ → (word caller : List ℕ) → ProfileName → Data
+of_profile line word caller p =
+    object (deed_members caller None word line (profile_members p no_members))
 
 -- what happened to a revision, by this caller
-abbrev pub of_revision : Option ℕ → Kind → List ℕ → ProfileName → ℕ → Option (List ℕ) → Data
-of_revision line kind caller p n digest =
-    object (deed_members caller digest kind line (revision_members p n no_members))
+abbrev pub of_revision :
+    Option ℕ → (word caller : List ℕ) → ProfileName → ℕ → Option (List ℕ) → Data
+of_revision line word caller p n digest =
+    object (deed_members caller digest word line (revision_members p n no_members))
 
 -- a founding
 abbrev pub founding_data : Option ℕ → (name team digest : List ℕ) → ℕ → Data
 founding_data line name team digest listed =
     object (digest_member digest
-    (kind_members Found line
+    (kind_members (codes "found") line
     (member (codes "listed") (set_data listed) (user_members name team no_members))))
 
 -- an enrolment
 abbrev pub enrolment_data : Option ℕ → (caller name team : List ℕ) → ℕ → List ℕ → Data
 enrolment_data line caller name team roles digest =
-    object (deed_members caller (Some digest) Enrol line
+    object (deed_members caller (Some digest) (codes "enrol") line
     (member (codes "roles") (texts_data (role_words roles)) (user_members name team no_members)))
 
 -- a vote
 abbrev pub vote_data : Option ℕ → List ℕ → ProfileName → ℕ → List ℕ → Bool → Data
 vote_data line caller p n digest approves =
-    object (deed_members caller (Some digest) Vote line
+    object (deed_members caller (Some digest) (codes "vote") line
     (revision_members p n (text_member (codes "vote") (vote_word approves) no_members)))
 
 -- what happened, as JSON
@@ -100,16 +99,17 @@ event_data (enrolled caller name team roles digest) =
 event_data (submitted caller p text) =
     object (text_member (codes "by") caller
     (text_member (codes "document") text
-    (kind_members Submit None (profile_members p no_members))))
+    (kind_members (codes "submit") None (profile_members p no_members))))
 event_data (voted caller p n digest approves) = vote_data None caller p n digest approves
-event_data (on_revision caller act p n) = of_revision None (ActOnRevision act) caller p n None
-event_data (on_profile caller act p) = of_profile None (ActOnProfile act) caller p
+event_data (on_revision caller act p n) = of_revision None (revision_act_word act) caller p n None
+event_data (on_profile caller act p) = of_profile None (profile_act_word act) caller p
 
 -- a line, as JSON
 abbrev pub line_data : Line → Data
 line_data (happened e) = event_data e
-line_data strike = object (kind_members Strike None no_members)
-line_data (done n) = object (kind_members Done None (number_member (codes "of") n no_members))
+line_data strike = object (kind_members (codes "strike") None no_members)
+line_data (done n) =
+    object (kind_members (codes "done") None (number_member (codes "of") n no_members))
 
 -- the text of a line, which is the body of a sealed one
 unfoldable pub text_of : Line → List ℕ

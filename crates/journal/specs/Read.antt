@@ -1,9 +1,11 @@
 -- What an object may be the line of. Members besides those of its kind aren't looked at, and
 -- neither is how roles and capabilities are ordered: a line is read by the text of what it may be.
-use Rattle.std.specs.Prelude.{ℕ, List, Option, Some, option_and_then, codes}
+use Rattle.std.specs.Prelude.{ℕ, List, Option, Some, None, if◌then◌else◌, option_and_then, codes}
+use Rattle.std.specs.Str.{bytes_eq}
 use Rattle.serde_json.specs.Data.{Data}
 use Rattle.serde_json.specs.Find.{get, as_array}
 use Rattle.profile_text.specs.Sets.{caps_of}
+use Rattle.review_policy.specs.Acts.{profile_act_of, revision_act_of}
 use Rattle.review_policy.specs.declared.act.ProfileAct.{ProfileAct}
 use Rattle.review_policy.specs.declared.act.RevisionAct.{RevisionAct}
 use Rattle.json_requests.specs.Members.{◌>>=◌, text_at, word_at, name_at, revision_at, digest_at}
@@ -11,10 +13,6 @@ use Rattle.json_requests.specs.Members.{vote_at, roles_at, whole_at}
 use Rattle.json_requests.specs.Requests.{value_of}
 use Rattle.office_policy.specs.History.{Event, founded, enrolled, submitted, voted}
 use Rattle.office_policy.specs.History.{on_revision, on_profile}
-use Rattle.journal.specs.declared.kind.Kind.{Kind}
-use Rattle.journal.specs.declared.kind.Kind.TheVariants.{Found, Enrol, Submit, Vote}
-use Rattle.journal.specs.declared.kind.Kind.TheVariants.{ActOnRevision, ActOnProfile, Strike, Done}
-use Rattle.journal.specs.Kinds.{kind_of}
 use Rattle.journal.specs.Lines.{Line, happened, strike, done}
 
 -- the listed capabilities
@@ -81,21 +79,28 @@ done_at d = do
   n ← whole_at (codes "of") d
   Some (done n)
 
-abbrev pub line_at : Kind → Data → Option Line
-line_at Found d = founded_at d
-line_at Enrol d = enrolled_at d
-line_at Submit d = submitted_at d
-line_at Vote d = voted_at d
-line_at (ActOnRevision act) d = acted_on_revision_at act d
-line_at (ActOnProfile act) d = acted_on_profile_at act d
-line_at Strike d = Some strike
-line_at Done d = done_at d
+-- an act on a revision or on a profile, where there is one
+abbrev pub acted_at : Option RevisionAct → Option ProfileAct → Data → Option Line
+acted_at (Some act) _ d = acted_on_revision_at act d
+acted_at None (Some act) d = acted_on_profile_at act d
+acted_at None None d = None
+
+-- the line of what has this word
+abbrev pub line_at : List ℕ → Data → Option Line
+line_at word d =
+    if bytes_eq word (codes "found") then founded_at d
+    else if bytes_eq word (codes "enrol") then enrolled_at d
+    else if bytes_eq word (codes "submit") then submitted_at d
+    else if bytes_eq word (codes "vote") then voted_at d
+    else if bytes_eq word (codes "strike") then Some strike
+    else if bytes_eq word (codes "done") then done_at d
+    else acted_at (revision_act_of word) (profile_act_of word) d
 
 -- what an object may be the line of
 unfoldable pub candidate_at : Data → Option Line
 candidate_at d = do
-  kind ← option_and_then kind_of (text_at (codes "event") d)
-  line_at kind d
+  word ← text_at (codes "event") d
+  line_at word d
 
 -- what a text may be
 unfoldable pub candidate_in : List ℕ → Option Line

@@ -4,11 +4,9 @@
 
 pub mod events;
 pub mod fault;
-mod forms;
 mod journal;
 mod journaled;
 mod kept;
-pub mod kind;
 pub mod laws;
 pub mod line;
 mod log;
@@ -25,7 +23,6 @@ pub use fault::UnreadLine;
 pub use journal::Journal;
 pub use journaled::Journaled;
 pub use kept::Kept;
-pub use kind::Kind;
 pub use line::Line;
 pub use print::{change_text, text};
 pub use read::read_line;

@@ -10,7 +10,6 @@ ghost use Rattle.journal.specs.Lines.{deed_members, enrolment_data, founding_dat
 ghost use Rattle.journal.specs.Lines.{of_profile, of_revision, profile_members, revision_members};
 ghost use Rattle.journal.specs.Lines.{role_words, user_members, vote_data, words_among};
 
-use crate::kind::Kind;
 use cap_sets::Caps;
 use json_requests::write::{write_digest, write_number, write_text};
 use json_tree::Writer;
@@ -19,16 +18,16 @@ use review_policy::{ProfileName, Role, Roles, Word};
 use review_sheet::vote_word;
 use std::alloc::{AllocError, Global};
 
-/// The kind of what happened, and the number of a line where there is one.
+/// The word of what happened, and the number of a line where there is one.
 ///
 /// # Errors
 ///
 /// Memory was refused. No contract can say when.
-pub(crate) fn write_kind(out: &mut Writer, kind: Kind, line: Option<u64>) -> Result<(), AllocError>
+pub(crate) fn write_kind(out: &mut Writer, word: &str, line: Option<u64>) -> Result<(), AllocError>
     ensures { OnOk result (Appends out.old out.new
-        (open_tokens (kind_members kind line no_members))) }
+        (open_tokens (kind_members word.now line no_members))) }
 {
-    write_text(out, "event", kind.word())?;
+    write_text(out, "event", word)?;
     match line {
         Some(line) => write_number(out, "line", line),
         None => Ok(()),
@@ -56,15 +55,15 @@ fn write_deed(
     alloc: Global,
     caller: &Word,
     digest: Option<&[u8; 32]>,
-    kind: Kind,
+    word: &str,
     line: Option<u64>,
 ) -> Result<(), AllocError>
     ensures { OnOk result (Appends out.old out.new (open_tokens
-        (deed_members caller.now (option_map (λ d. d.now) digest.entry) kind line no_members))) }
+        (deed_members caller.now (option_map (λ d. d.now) digest.entry) word.now line no_members))) }
 {
     write_text(out, "by", caller.as_str())?;
     write_digest_if(out, alloc, digest)?;
-    write_kind(out, kind, line)
+    write_kind(out, word, line)
 }
 
 /// A profile.
@@ -151,7 +150,7 @@ pub fn write_founding(
 {
     out.begin_object()?;
     write_digest(out, alloc, digest)?;
-    write_kind(out, Kind::Found, line)?;
+    write_kind(out, "found", line)?;
     write_set(out, "listed", listed)?;
     write_user(out, user, team)?;
     out.end_object()
@@ -176,7 +175,7 @@ pub fn write_enrolment(
         (tokens_of (enrolment_data line caller.now user.now team.now roles digest.now))) }
 {
     out.begin_object()?;
-    write_deed(out, alloc, caller, Some(digest), Kind::Enrol, line)?;
+    write_deed(out, alloc, caller, Some(digest), "enrol", line)?;
     write_roles(out, roles)?;
     write_user(out, user, team)?;
     out.end_object()
@@ -190,16 +189,16 @@ pub fn write_enrolment(
 pub fn write_on_profile(
     out: &mut Writer,
     line: Option<u64>,
-    kind: Kind,
+    word: &str,
     caller: &Word,
     name: &ProfileName,
 ) -> Result<(), AllocError>
     ensures { OnOk result (Appends out.old out.new
-        (tokens_of (of_profile line kind caller.now name.now))) }
+        (tokens_of (of_profile line word.now caller.now name.now))) }
 {
     out.begin_object()?;
     write_text(out, "by", caller.as_str())?;
-    write_kind(out, kind, line)?;
+    write_kind(out, word, line)?;
     write_profile(out, name)?;
     out.end_object()
 }
@@ -213,17 +212,18 @@ pub fn write_on_revision(
     out: &mut Writer,
     alloc: Global,
     line: Option<u64>,
-    kind: Kind,
+    word: &str,
     caller: &Word,
     name: &ProfileName,
     number: u64,
     digest: Option<&[u8; 32]>,
 ) -> Result<(), AllocError>
     ensures { OnOk result (Appends out.old out.new (tokens_of
-        (of_revision line kind caller.now name.now number (option_map (λ d. d.now) digest.entry)))) }
+        (of_revision line word.now caller.now name.now number
+        (option_map (λ d. d.now) digest.entry)))) }
 {
     out.begin_object()?;
-    write_deed(out, alloc, caller, digest, kind, line)?;
+    write_deed(out, alloc, caller, digest, word, line)?;
     write_revision(out, name, number)?;
     out.end_object()
 }
@@ -247,7 +247,7 @@ pub fn write_vote(
         (tokens_of (vote_data line caller.now name.now number digest.now approves))) }
 {
     out.begin_object()?;
-    write_deed(out, alloc, caller, Some(digest), Kind::Vote, line)?;
+    write_deed(out, alloc, caller, Some(digest), "vote", line)?;
     write_revision(out, name, number)?;
     write_text(out, "vote", vote_word(approves))?;
     out.end_object()

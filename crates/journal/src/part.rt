@@ -3,14 +3,14 @@
 ghost use Rattle.std.specs.Prelude.{◌≡◌, codes};
 ghost use Rattle.json_tree.specs.View.{view, items_view};
 ghost use Rattle.profile_text.specs.Sets.{cap_of, caps_of};
+ghost use Rattle.review_policy.specs.Acts.{profile_act_of, revision_act_of};
 ghost use Rattle.json_requests.specs.Faults.{Gives};
 ghost use Rattle.json_requests.specs.Members.{text_at};
-ghost use Rattle.journal.specs.Read.{acted_on_profile_at, acted_on_revision_at, caller_at};
-ghost use Rattle.journal.specs.Read.{candidate_at, done_at, enrolled_at, founded_at, line_at};
+ghost use Rattle.journal.specs.Read.{acted_at, acted_on_profile_at, acted_on_revision_at};
+ghost use Rattle.journal.specs.Read.{caller_at, candidate_at, done_at, enrolled_at, founded_at};
 ghost use Rattle.journal.specs.Read.{listed_at, submitted_at, voted_at};
 ghost use Rattle.journal.specs.Shown.{shown};
 
-use crate::kind::Kind;
 use crate::line::Line;
 use cap_sets::Caps;
 use json_requests::LineFault;
@@ -168,19 +168,17 @@ fn done_of(value: &Tree<'_>) -> Result<Line, LineFault>
     }
 }
 
-// The line of this kind.
-fn line_of(alloc: Global, kind: Kind, value: &Tree<'_>) -> Result<Line, LineFault>
-    ensures { Gives shown result (line_at kind (view value.now)) }
+// What was done to a revision or to a profile, where this is the word of an act.
+fn acted_of(alloc: Global, word: &str, value: &Tree<'_>) -> Result<Line, LineFault>
+    ensures { Gives shown result
+        (acted_at (revision_act_of word.now) (profile_act_of word.now) (view value.now)) }
 {
-    match kind {
-        Kind::Found => founded_of(alloc, value),
-        Kind::Enrol => enrolled_of(alloc, value),
-        Kind::Submit => submitted_of(alloc, value),
-        Kind::Vote => voted_of(alloc, value),
-        Kind::ActOnRevision(act) => acted_on_revision(alloc, act, value),
-        Kind::ActOnProfile(act) => acted_on_profile(alloc, act, value),
-        Kind::Strike => Ok(Line::Strike),
-        Kind::Done => done_of(value),
+    if let Some(act) = RevisionAct::from_word(word) {
+        return acted_on_revision(alloc, act, value);
+    }
+    match ProfileAct::from_word(word) {
+        Some(act) => acted_on_profile(alloc, act, value),
+        None => Err(LineFault::NotARequest),
     }
 }
 
@@ -189,8 +187,16 @@ fn line_of(alloc: Global, kind: Kind, value: &Tree<'_>) -> Result<Line, LineFaul
 pub(crate) fn candidate_of(alloc: Global, value: &Tree<'_>) -> Result<Line, LineFault>
     ensures { Gives shown result (candidate_at (view value.now)) }
 {
-    match text_of(value, "event").and_then(Kind::from_word) {
-        Some(kind) => line_of(alloc, kind, value),
-        None => Err(LineFault::NotARequest),
+    let Some(word) = text_of(value, "event") else {
+        return Err(LineFault::NotARequest);
+    };
+    match word {
+        "found" => founded_of(alloc, value),
+        "enrol" => enrolled_of(alloc, value),
+        "submit" => submitted_of(alloc, value),
+        "vote" => voted_of(alloc, value),
+        "strike" => Ok(Line::Strike),
+        "done" => done_of(value),
+        _ => acted_of(alloc, word, value),
     }
 }

@@ -2,12 +2,12 @@
 
 ghost use Rattle.std.specs.Prelude.{◌≡◌, IfOk, bytes_eq};
 ghost use Rattle.journal.specs.Faults.{IsCandidate, IsRead};
+ghost use Rattle.journal.specs.Forms.{IsFormed, IsNumbered};
 ghost use Rattle.journal.specs.Lines.{text_of};
 ghost use Rattle.journal.specs.Read.{candidate_in};
 ghost use Rattle.journal.specs.Shown.{shown};
 
 use crate::fault::UnreadLine;
-use crate::forms::line_forms;
 use crate::line::Line;
 use crate::part::candidate_of;
 use crate::print::text;
@@ -32,9 +32,10 @@ fn candidate(alloc: Global, bytes: &[u8]) -> Result<Line, UnreadLine>
     }
 }
 
-// Whether the bytes are the text of a line.
+// Whether the bytes are the text of a line, which has its forms where its number has its own.
 fn is_its_text(alloc: Global, line: &Line, bytes: &[u8]) -> Result<bool, AllocError>
-    ensures { IfOk result (λ same. same ≡ bytes_eq (text_of (shown line.now)) bytes.now) }
+    ensures same { IfOk result (λ same. same ≡ bytes_eq (text_of (shown line.now)) bytes.now) }
+    ensures forms { IsNumbered (shown line.now) → IsFormed (shown line.now) }
 {
     let written = text(alloc, line)?;
     Ok(written.as_bytes() == bytes)
@@ -47,7 +48,6 @@ pub fn read_line(alloc: Global, bytes: &[u8]) -> Result<Line, UnreadLine>
     ensures { IsRead bytes.now result }
 {
     let line = candidate(alloc, bytes)?;
-    line_forms(&line);
     if is_its_text(alloc, &line, bytes)? {
         Ok(line)
     } else {

@@ -2,21 +2,22 @@
 
 ghost use Rattle.std.specs.Prelude.{◌≡◌, IfOk, OnOk, Some, option_map, string_bytes};
 ghost use Rattle.json_tree.specs.Tokens.{Appends, tokens_of};
+ghost use Rattle.review_policy.specs.Acts.{revision_act_word};
 ghost use Rattle.office_policy.specs.Happened.{event_meant};
 ghost use Rattle.office_policy.specs.History.{did, submitted};
 ghost use Rattle.journal.specs.Lines.{of_revision, vote_data};
 ghost use Rattle.journal_reports.specs.Json.{data_of, digest_found, json_of};
 
+use journal::Placed;
 use journal::members::{
     write_enrolment, write_founding, write_on_profile, write_on_revision, write_vote,
 };
-use journal::{Kind, Placed};
 use json_tree::{Writer, written_text};
 use office_judging::number_of;
 use office_policy::{Deed, Event};
 use office_tables::RevisionRow;
 use profile_text::digest;
-use review_policy::{ProfileName, Text, Word};
+use review_policy::{ProfileName, RevisionAct, Text, Word};
 use std::alloc::{AllocError, Global};
 
 // How many bytes a text has room for before it grows.
@@ -36,7 +37,7 @@ fn digest_found(found: &Option<RevisionRow>) -> Option<&[u8; 32]>
 fn write_found(
     out: &mut Writer,
     alloc: Global,
-    kind: Kind,
+    act: RevisionAct,
     line: u64,
     caller: &Word,
     name: &ProfileName,
@@ -44,14 +45,15 @@ fn write_found(
     found: &Option<RevisionRow>,
 ) -> Result<(), AllocError>
     ensures { OnOk result (Appends out.old out.new (tokens_of
-        (of_revision (Some line) kind caller.now name.now number (digest_found found.now)))) }
+        (of_revision (Some line) (revision_act_word act) caller.now name.now number
+        (digest_found found.now)))) }
 {
     let digest = digest_found(found);
     write_on_revision(
         out,
         alloc,
         Some(line),
-        kind,
+        act.word(),
         caller,
         name,
         number as u64,
@@ -79,7 +81,7 @@ fn write_submission(
         out,
         alloc,
         line,
-        Kind::Submit,
+        "submit",
         caller,
         name,
         number,
@@ -146,12 +148,9 @@ fn write_deed(
             act,
             name,
             revision,
-        } => {
-            let kind = Kind::ActOnRevision(*act);
-            write_found(out, alloc, kind, line, caller, name, *revision, found)
-        }
+        } => write_found(out, alloc, *act, line, caller, name, *revision, found),
         Deed::ActOnProfile { act, name } => {
-            write_on_profile(out, Some(line), Kind::ActOnProfile(*act), caller, name)
+            write_on_profile(out, Some(line), act.word(), caller, name)
         }
     }
 }

@@ -7,6 +7,6 @@ use Rattle.journal.proofs.members.write_on_revision.Goals as goal
 
 pub returns : goal.returns
 returns c =
-    rw (deed_first c.args.caller.now (option_map (λ d. d.now) c.args.digest) c.args.kind c.args.line (revision_members c.args.name.now c.args.number no_members))
+    rw (deed_first c.args.caller.now (option_map (λ d. d.now) c.args.digest) c.args.word.now c.args.line (revision_members c.args.name.now c.args.number no_members))
     (after_last _ _ _ c.in_ok-begin_object.ensures (after_last _ _ _ c.in_ok-write_deed.ensures (after_last _ _ _ c.in_ok-write_revision.ensures
     c.end_object.ensures)))

@@ -17,7 +17,7 @@ wider : (bytes : List ℕ) (less more : ℕ) → less ≤ more → (left : List 
 wider bytes less more within left has = record { tail = has.tail; short = omega (arith, within, has.short); is = has.is }
 
 pub put-requires : goal.put-requires
-put-requires g c = subst IsBody (sym (c.as_bytes.ensures.value ∙ c.in_ok-text.ensures)) strike_entry.body
+put-requires g c = subst IsBody (sym (c.as_bytes.ensures.value ∙ c.in_ok-text.ensures.text)) strike_entry.body
 
 pub returns-in_err-put : goal.returns-in_err-put
 returns-in_err-put g c =
@@ -28,7 +28,7 @@ returns-in_err-put g c =
       why = log_outside c.in_err-put.field-0.0;
       word = λ is_open clean. by_met g.D.Disk c.args.log.now.disk c.put.new.self.disk c.in_err-put.field-0.0 (c.in_err-put.ensures.word clean is_open);
       crash = λ is_open clean left may.
-          wider _ _ longest (no_longer (seal_of (bodies_of g.D.Disk c.args.log.now)) c.as_bytes.result.now (subst IsBody (sym (c.as_bytes.ensures.value ∙ c.in_ok-text.ensures)) strike_entry.body))
+          wider _ _ longest (no_longer (seal_of (bodies_of g.D.Disk c.args.log.now)) c.as_bytes.result.now (subst IsBody (sym (c.as_bytes.ensures.value ∙ c.in_ok-text.ensures.text)) strike_entry.body))
           left (c.in_err-put.ensures.crash is_open clean left may);
     })
 
@@ -36,10 +36,10 @@ pub returns : goal.returns
 returns g c = record {
   clean = c.in_ok-put.ensures.clean;
   opened = c.in_ok-put.ensures.appended.0;
-  bodies = λ clean. c.in_ok-put.ensures.appended.1 clean ∙ ap (λ b. bodies_of g.D.Disk c.args.log.now ++ b ∷ []) (c.as_bytes.ensures.value ∙ c.in_ok-text.ensures);
+  bodies = λ clean. c.in_ok-put.ensures.appended.1 clean ∙ ap (λ b. bodies_of g.D.Disk c.args.log.now ++ b ∷ []) (c.as_bytes.ensures.value ∙ c.in_ok-text.ensures.text);
   why = tt;
   word = λ is_open clean. tt;
   crash = λ is_open clean left may.
-      wider _ _ longest (no_longer (seal_of (bodies_of g.D.Disk c.args.log.now)) c.as_bytes.result.now (subst IsBody (sym (c.as_bytes.ensures.value ∙ c.in_ok-text.ensures)) strike_entry.body))
+      wider _ _ longest (no_longer (seal_of (bodies_of g.D.Disk c.args.log.now)) c.as_bytes.result.now (subst IsBody (sym (c.as_bytes.ensures.value ∙ c.in_ok-text.ensures.text)) strike_entry.body))
       left (c.in_ok-put.ensures.crash is_open clean left may);
 }
