@@ -6,6 +6,7 @@ ghost use Rattle.office_policy.specs.Handled.{IsHandled};
 use crate::fault::HttpFault;
 use crate::served::Served;
 use http_requests::{OfficeRouter, Refusal, Status, Unheard, answer_status, hear};
+use json_tree::Scratch;
 use no_memory::NoMemory;
 use office_policy::Handler;
 use review_policy::{Answer, Fault, Request};
@@ -33,6 +34,7 @@ impl ExchangeOutcome {
         office: &mut H,
         alloc: Global,
         router: &OfficeRouter,
+        scratch: &mut Scratch,
         reader: &mut Counted<R>,
         most_calls: u64,
     ) -> Result<ExchangeOutcome, HttpFault>
@@ -45,7 +47,7 @@ impl ExchangeOutcome {
             reader.old.faults reader.new.faults result }
         ensures calls { reader.new.calls ≤ most_calls }
     {
-        match hear(alloc, router, reader, most_calls) {
+        match hear(alloc, router, scratch, reader, most_calls) {
             Ok(request) => {
                 let answer = office.handle(alloc, &request);
                 Ok(ExchangeOutcome::Answered { request, answer })

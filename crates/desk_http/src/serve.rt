@@ -12,6 +12,7 @@ use crate::fault::HttpFault;
 use crate::outcome::ExchangeOutcome;
 use crate::served::Served;
 use http_requests::{OfficeRouter, answer_response, memory_response, refusal_response};
+use json_tree::Scratch;
 use office_policy::Handler;
 use std::alloc::{AllocError, Global};
 use std::io::{Read, Write};
@@ -80,6 +81,7 @@ fn exchange<H: Handler, R: Read, W: Write>(
     office: &mut H,
     alloc: Global,
     router: &OfficeRouter,
+    scratch: &mut Scratch,
     reader: &mut Counted<R>,
     writer: &mut Counted<W>,
 ) -> Result<Served, HttpFault>
@@ -94,7 +96,7 @@ fn exchange<H: Handler, R: Read, W: Write>(
     ensures write { TellCounts writer.old.faults writer.new.faults result }
 {
     let most_calls = reader.calls() + MAX_READS;
-    let outcome = ExchangeOutcome::of_stream(office, alloc, router, reader, most_calls)?;
+    let outcome = ExchangeOutcome::of_stream(office, alloc, router, scratch, reader, most_calls)?;
     tell(alloc, &outcome, writer)
 }
 
@@ -116,6 +118,7 @@ pub fn serve_one<H: Handler, R: Read, W: Write>(
     office: &mut H,
     alloc: Global,
     router: &OfficeRouter,
+    scratch: &mut Scratch,
     reader: &mut Counted<R>,
     writer: &mut Counted<W>,
 ) -> Result<Served, HttpFault>
@@ -139,5 +142,5 @@ pub fn serve_one<H: Handler, R: Read, W: Write>(
     ensures calls { reader.new.calls ≤ reader.old.calls + 600000 }
     ensures write { TellCounts writer.old.faults writer.new.faults result }
 {
-    exchange(office, alloc, router, reader, writer)
+    exchange(office, alloc, router, scratch, reader, writer)
 }

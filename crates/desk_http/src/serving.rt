@@ -8,6 +8,7 @@ use crate::serve::serve_one;
 use crate::served::Served;
 use crate::tell::tell;
 use http_requests::OfficeRouter;
+use json_tree::Scratch;
 use office_policy::Handler;
 use std::alloc::Global;
 use std::io::Write;
@@ -18,6 +19,7 @@ fn serve_stream<H: Handler, L: Listener>(
     office: &mut H,
     alloc: Global,
     router: &OfficeRouter,
+    scratch: &mut Scratch,
     listener: &mut L,
     stream: Stream<L::Reader, L::Writer>,
 ) -> Result<Served, HttpFault>
@@ -26,7 +28,7 @@ fn serve_stream<H: Handler, L: Listener>(
 {
     let mut reader = Counted::new(stream.reader);
     let mut writer = Counted::new(stream.writer);
-    let served = serve_one(office, alloc, router, &mut reader, &mut writer);
+    let served = serve_one(office, alloc, router, scratch, &mut reader, &mut writer);
     listener.take_back(reader, writer, served);
     served
 }
@@ -36,13 +38,14 @@ fn serve_next<H: Handler, L: Listener>(
     office: &mut H,
     alloc: Global,
     router: &OfficeRouter,
+    scratch: &mut Scratch,
     listener: &mut L,
 ) -> Result<Served, HttpFault>
     ensures { IsNext L.meaning L.Reader.remaining L.Writer.contents H.meaning
         listener.old listener.new office.old office.new result }
 {
     match listener.accept() {
-        Ok(stream) => serve_stream(office, alloc, router, listener, stream),
+        Ok(stream) => serve_stream(office, alloc, router, scratch, listener, stream),
         Err(_) => Err(HttpFault::Read),
     }
 }
@@ -65,8 +68,9 @@ pub fn serve_exchanges<H: Handler, L: Listener, O: Write>(
         O.contents listener.old listener.new office.old office.new
         output.old output.new exchanges result }
 {
+    let mut scratch = Scratch::new(alloc);
     for _ in 0..exchanges {
-        let served = serve_next(office, alloc, router, listener);
+        let served = serve_next(office, alloc, router, &mut scratch, listener);
         tell(output, served)?;
     }
     Ok(())

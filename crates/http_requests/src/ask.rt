@@ -6,6 +6,7 @@ ghost use Rattle.http_requests.specs.Asks.{asked_of, of_profile, of_revision, wi
 
 use crate::route::{ProfileAsk, RevisionAsk, Route};
 use json_requests::{LineFault, read_enrol, read_vote};
+use json_tree::Scratch;
 use review_policy::{Ask, ProfileName};
 use std::alloc::Global;
 
@@ -37,11 +38,12 @@ fn of_revision(
     name: ProfileName,
     revision: u32,
     body: &[u8],
+    scratch: &mut Scratch,
 ) -> Result<Ask, LineFault>
     ensures { Gives plain_ask result (of_revision asked name revision body.now) }
 {
     match asked {
-        RevisionAsk::Vote => read_vote(alloc, name, revision, body),
+        RevisionAsk::Vote => read_vote(alloc, name, revision, body, scratch),
         RevisionAsk::Act(act) => {
             let ask = Ask::ActOnRevision {
                 act,
@@ -68,11 +70,16 @@ fn of_revision(
 /// # Errors
 ///
 /// `NotARequest` where the body isn't so; `NoMemory`, which may stand in place of any answer.
-pub(crate) fn ask_of(alloc: Global, route: Route, body: Vec<u8>) -> Result<Ask, LineFault>
+pub(crate) fn ask_of(
+    alloc: Global,
+    route: Route,
+    body: Vec<u8>,
+    scratch: &mut Scratch,
+) -> Result<Ask, LineFault>
     ensures { Gives plain_ask result (asked_of route body.items) }
 {
     match route {
-        Route::Users => read_enrol(alloc, &body),
+        Route::Users => read_enrol(alloc, &body, scratch),
         Route::Me => without_body(Ask::Me, &body),
         Route::Team(team) => without_body(Ask::List { team }, &body),
         Route::Revisions(name, before) => without_body(Ask::Revisions { name, before }, &body),
@@ -81,6 +88,8 @@ pub(crate) fn ask_of(alloc: Global, route: Route, body: Vec<u8>) -> Result<Ask, 
             document: body,
         }),
         Route::Profile(asked, name) => of_profile(asked, name, &body),
-        Route::Revision(asked, name, number) => of_revision(alloc, asked, name, number, &body),
+        Route::Revision(asked, name, number) => of_revision(
+            alloc, asked, name, number, &body, scratch,
+        ),
     }
 }

@@ -13,6 +13,7 @@ use crate::refusal::Refusal;
 use crate::router::OfficeRouter;
 use crate::target::find_route;
 use crate::unheard::Unheard;
+use json_tree::Scratch;
 use review_policy::{Request, Token};
 use std::alloc::Global;
 use std::io::Read;
@@ -33,6 +34,7 @@ fn token_of(alloc: Global, head: &Head, bytes: &[u8]) -> Result<Token, Unheard>
 fn hear_after<R: Read>(
     alloc: Global,
     router: &OfficeRouter,
+    scratch: &mut Scratch,
     reader: &mut Counted<R>,
     bytes: &[u8],
     front: &[u8],
@@ -50,13 +52,13 @@ fn hear_after<R: Read>(
     let route = find_route(alloc, router, head.method.of(bytes), head.target.of(bytes))?;
     let token = token_of(alloc, &head, bytes)?;
     let body = read_body(alloc, reader, front, head.length as usize, most_calls)?;
-    let ask = ask_of(alloc, route, body)?;
+    let ask = ask_of(alloc, route, body, scratch)?;
     Ok(Request { token, ask })
 }
 
 /// Hears the request that a stream begins with: its head is looked at as soon as it has ended, and
 /// its body is read only where nothing of the head refuses the request. An interrupted read is made
-/// again, until the reader has counted `most_calls`.
+/// again, until the reader has counted `most_calls`. A scratch is kept from request to request.
 ///
 /// # Errors
 ///
@@ -64,6 +66,7 @@ fn hear_after<R: Read>(
 pub fn hear<R: Read>(
     alloc: Global,
     router: &OfficeRouter,
+    scratch: &mut Scratch,
     reader: &mut Counted<R>,
     most_calls: u64,
 ) -> Result<Request, Unheard>
@@ -77,5 +80,5 @@ pub fn hear<R: Read>(
 {
     let head = read_head_bytes(alloc, reader, most_calls)?;
     let (bytes, front) = head.bytes.split_at(head.end);
-    hear_after(alloc, router, reader, bytes, front, most_calls)
+    hear_after(alloc, router, scratch, reader, bytes, front, most_calls)
 }

@@ -55,22 +55,21 @@ fn vote_at(name: ProfileName, revision: u32, value: &Tree<'_>) -> Result<Ask, Li
 }
 
 /// The enrolment that a body asks: an object of just `user`, `team`, `roles` and `digest`, each as
-/// in a line.
+/// in a line. A scratch is kept from body to body.
 ///
 /// # Errors
 ///
 /// `NotARequest` where it is none, also where it is no JSON; `NoMemory`, which may stand in place
 /// of any answer.
-pub fn read_enrol(alloc: Global, body: &[u8]) -> Result<Ask, LineFault>
+pub fn read_enrol(alloc: Global, body: &[u8], scratch: &mut Scratch) -> Result<Ask, LineFault>
     ensures { Gives plain_ask result (enrol_in body.now) }
 {
-    let mut scratch = Scratch::new(alloc);
-    let value = value_of(alloc, body, &mut scratch)?;
+    let value = value_of(alloc, body, scratch)?;
     enrol_at(alloc, &value)
 }
 
 /// The vote on this revision that a body asks: an object of just `digest` and `vote`, each as in a
-/// line.
+/// line. A scratch is kept from body to body.
 ///
 /// # Errors
 ///
@@ -81,10 +80,10 @@ pub fn read_vote(
     name: ProfileName,
     revision: u32,
     body: &[u8],
+    scratch: &mut Scratch,
 ) -> Result<Ask, LineFault>
     ensures { Gives plain_ask result (vote_in name revision body.now) }
 {
-    let mut scratch = Scratch::new(alloc);
-    let value = value_of(alloc, body, &mut scratch)?;
+    let value = value_of(alloc, body, scratch)?;
     vote_at(name, revision, &value)
 }

@@ -47,7 +47,15 @@ fn respond<H: Handler>(
     let router = OfficeRouter::new(alloc)?;
     let mut reader = Counted::new(request.as_bytes());
     let mut writer = Counted::new(written);
-    serve_one(office, alloc, &router, &mut reader, &mut writer)?;
+    let mut scratch = Scratch::new(alloc);
+    serve_one(
+        office,
+        alloc,
+        &router,
+        &mut scratch,
+        &mut reader,
+        &mut writer,
+    )?;
     Ok(())
 }
 

@@ -6,6 +6,7 @@ use anyhow::{Result, bail};
 use cap_sets::Caps;
 use desk_http::serve_one;
 use http_requests::OfficeRouter;
+use json_tree::Scratch;
 use office_desk::Office;
 use office_founding::FoundingFault;
 use profile_text::digest;
@@ -47,7 +48,15 @@ pub fn lines_of(
     let mut written = Vec::new(alloc);
     let mut reader = Counted::new(request);
     let mut writer = Counted::new(&mut written);
-    let served = serve_one(office, alloc, router, &mut reader, &mut writer);
+    let mut scratch = Scratch::new(alloc);
+    let served = serve_one(
+        office,
+        alloc,
+        router,
+        &mut scratch,
+        &mut reader,
+        &mut writer,
+    );
     let mut lines = Vec::new(alloc);
     push_response(&mut lines, &written)?;
     if let Err(fault) = served {

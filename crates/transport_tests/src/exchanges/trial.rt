@@ -2,6 +2,7 @@
 
 use desk_http::{HttpFault, Served, serve_one};
 use http_requests::OfficeRouter;
+use json_tree::Scratch;
 use std::alloc::Global;
 use std::io::{Read, Write};
 use std::process::Abort;
@@ -72,6 +73,7 @@ impl Trial {
             &mut self.office,
             self.alloc,
             &self.router,
+            &mut Scratch::new(self.alloc),
             &mut reader,
             &mut writer,
         );
