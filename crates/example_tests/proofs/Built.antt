@@ -9,8 +9,8 @@ use Rattle.sealed_log.proofs.SealFacts.{length-last_seal, length-no_seal}
 use Rattle.sealed_log.proofs.ToldFacts.{told_unended}
 use Rattle.office_policy.specs.Handled.{Stands}
 use Rattle.office_policy.specs.History.{Event, History}
-use Rattle.journal.specs.declared.events.Unreadable.{Unreadable}
-use Rattle.journal.specs.declared.events.Unreadable.TheVariants.{NoEventBefore, Read, TornLine}
+use Rattle.journal.specs.declared.fault.Unreadable.{Unreadable}
+use Rattle.journal.specs.declared.fault.Unreadable.TheVariants.{NoEventBefore, Read, TornLine}
 use Rattle.journal.specs.Journal.{IsEntry}
 use Rattle.journal.specs.Journals.{BeginsWith}
 use Rattle.journal.specs.Lines.{Line, happened, strike, text_of}

@@ -7,8 +7,8 @@ use Rattle.sealed_log.specs.Sealed.{seal_on, sealed_line}
 use Rattle.sealed_log.specs.Told.{told_behind}
 use Rattle.sealed_log.proofs.ToldFacts.{told_line, told_nowhere, told_other, told_unended}
 use Rattle.office_policy.specs.History.{Event}
-use Rattle.journal.specs.declared.events.Unreadable.{Unreadable}
-use Rattle.journal.specs.declared.events.Unreadable.TheVariants.{NotALine, NoEventBefore, Unsealed, TornLine, Read, NoMemory}
+use Rattle.journal.specs.declared.fault.Unreadable.{Unreadable}
+use Rattle.journal.specs.declared.fault.Unreadable.TheVariants.{NotALine, NoEventBefore, Unsealed, TornLine, Read, NoMemory}
 use Rattle.journal.specs.Journal.{IsEntry, settled_if, taken}
 use Rattle.journal.specs.Lines.{Line, done, text_of}
 use Rattle.journal.specs.Told.{CannotTake, IsOutside, IsStopped, IsTold, Place, Stops, Tells, held_after, seal_behind, text_behind, told}

@@ -8,8 +8,8 @@ use Rattle.office_policy.specs.History.{Event, History}
 use Rattle.office_policy.specs.Runs.{with_event as with_was}
 use Rattle.journal.specs.Begun.{with_event}
 use Rattle.journal.specs.declared.kept.Kept.{Kept}
-use Rattle.journal.specs.declared.reader.Faulty.{Faulty}
-use Rattle.journal.specs.declared.reader.Faulty.TheVariants.{NotALine, NoEventBefore, NoMemory}
+use Rattle.journal.specs.declared.fault.Unreadable.{Unreadable}
+use Rattle.journal.specs.declared.fault.Unreadable.TheVariants.{NotALine, NoEventBefore, Unsealed, TornLine, Read, NoMemory}
 use Rattle.journal.specs.Forms.{IsFormed}
 use Rattle.journal.specs.Journal.{EndsWithEvent, IsEntry, Says, history_from, history_in, settled_if, taken}
 use Rattle.journal.specs.Kept.{IsFaulty, IsKept, SaysNone, Settled, TakesBody, keeps, keeps_by, settled_from, with_stood}
@@ -251,10 +251,13 @@ none_more bodies body none h says =
     let ends = ends_in bodies body h says in
     none (with_was ends.held ends.settled) (says_all bodies ends.settled ends.held ends.before)
 
-pub still_faulty : (bodies : List (List ℕ)) (body : List ℕ) (fault : Faulty) → IsFaulty bodies fault → IsFaulty (bodies ++ body ∷ []) fault
+pub still_faulty : (bodies : List (List ℕ)) (body : List ℕ) (fault : Unreadable) → IsFaulty bodies fault → IsFaulty (bodies ++ body ∷ []) fault
 still_faulty bodies body NotALine none = none_more bodies body none
 still_faulty bodies body NoEventBefore none = none_more bodies body none
 still_faulty bodies body (NoMemory _) none = tt
+still_faulty bodies body Unsealed none = none
+still_faulty bodies body TornLine none = none
+still_faulty bodies body Read none = none
 
 -- a line that says of another line than the one before that it is carried out isn't taken
 other_number : (n k : ℕ) (held : Option Event) (t : Taken) → k ≢ n → taken n held (done k) ≡ Some t → ⊥
@@ -288,12 +291,12 @@ module _ (bodies : List (List ℕ)) (body : List ℕ) (w : Writers) (held : Opti
 -- ---- a keeper
 
 -- why nothing more is taken
-abbrev pub fault_of : Result ⊤ Faulty → Option Faulty
+abbrev pub fault_of : Result ⊤ Unreadable → Option Unreadable
 fault_of (Ok _) = None
 fault_of (Err fault) = Some fault
 
 -- what was taken is kept
-pub is_kept : (bodies : List (List ℕ)) (body : List ℕ) (old new : Kept) (result : Result ⊤ Faulty) (fault : Option Faulty) → IsBody body → IsKept bodies (writers_meant old.settled) (held old.reader)
+pub is_kept : (bodies : List (List ℕ)) (body : List ℕ) (old new : Kept) (result : Result ⊤ Unreadable) (fault : Option Unreadable) → IsBody body → IsKept bodies (writers_meant old.settled) (held old.reader)
     → TakesBody (length bodies) body old new result → fault ≡ fault_of result → keeps_by fault (bodies ++ body ∷ []) new
 is_kept bodies body old new (Ok _) fault is_body k takes is =
     subst (λ f. keeps_by f (bodies ++ body ∷ []) new) (sym is)
@@ -303,18 +306,21 @@ is_kept bodies body old new (Err NotALine) fault is_body k takes is =
 is_kept bodies body old new (Err NoEventBefore) fault is_body k takes is =
     subst (λ f. keeps_by f (bodies ++ body ∷ []) new) (sym is) (no_event_before bodies body (writers_meant old.settled) (held old.reader) k takes.0 takes.1)
 is_kept bodies body old new (Err (NoMemory _)) fault is_body k takes is = subst (λ f. keeps_by f (bodies ++ body ∷ []) new) (sym is) tt
+is_kept bodies body old new (Err Unsealed) fault is_body k takes is = absurd takes
+is_kept bodies body old new (Err TornLine) fault is_body k takes is = absurd takes
+is_kept bodies body old new (Err Read) fault is_body k takes is = absurd takes
 
 -- behind a line that can't stand there nothing is kept
-pub still_kept : (fault : Option Faulty) (bodies : List (List ℕ)) (body : List ℕ) (old new : Kept) → is_some fault ≡ true → keeps_by fault bodies old → keeps_by fault (bodies ++ body ∷ []) new
+pub still_kept : (fault : Option Unreadable) (bodies : List (List ℕ)) (body : List ℕ) (old new : Kept) → is_some fault ≡ true → keeps_by fault bodies old → keeps_by fault (bodies ++ body ∷ []) new
 still_kept None bodies body old new is kept = absurd cc
 still_kept (Some fault) bodies body old new is kept = still_faulty bodies body fault kept
 
-not_faulty : (fault : Option Faulty) → is_some fault ≡ false → fault ≡ None
+not_faulty : (fault : Option Unreadable) → is_some fault ≡ false → fault ≡ None
 not_faulty None is = refl
 not_faulty (Some fault) is = absurd cc
 
 -- and before one all is
-pub kept_on : (bodies : List (List ℕ)) (body : List ℕ) (before : ℕ) (old new : Kept) (result : Result ⊤ Faulty) (fault : Option Faulty) → is_some old.fault ≡ false → length bodies ≡ before → IsBody body → keeps bodies old
+pub kept_on : (bodies : List (List ℕ)) (body : List ℕ) (before : ℕ) (old new : Kept) (result : Result ⊤ Unreadable) (fault : Option Unreadable) → is_some old.fault ≡ false → length bodies ≡ before → IsBody body → keeps bodies old
     → TakesBody before body old new result → fault ≡ fault_of result → keeps_by fault (bodies ++ body ∷ []) new
 kept_on bodies body before old new result fault is counted is_body kept takes same =
     is_kept bodies body old new result fault is_body (subst (λ f. keeps_by f bodies old) (not_faulty old.fault is) kept) (subst (λ n. TakesBody n body old new result) (sym counted) takes) same

@@ -7,8 +7,8 @@ use Rattle.serde_json.specs.Read.{max_depth, read}
 use Rattle.profile_text.proofs.Printing.{deeper, printed_json}
 use Rattle.json_requests.proofs.RequestFacts.{value_is, value_is_none}
 use Rattle.journal.specs.declared.line.Line as of_lines
-use Rattle.journal.specs.declared.fault.UnreadLine.{UnreadLine}
-use Rattle.journal.specs.declared.fault.UnreadLine.TheVariants.{NotALine, NoMemory}
+use Rattle.journal.specs.declared.fault.Unreadable.{Unreadable}
+use Rattle.journal.specs.declared.fault.Unreadable.TheVariants.{NotALine, NoEventBefore, Unsealed, TornLine, Read, NoMemory}
 use Rattle.journal.specs.Faults.{IsCandidate, IsRead}
 use Rattle.journal.specs.Forms.{IsFormed, IsNumbered}
 use Rattle.journal.specs.Lines.{Line, line_data, text_of}
@@ -43,11 +43,15 @@ candidate_none bytes none = rw (value_is_none bytes none) refl
 -- ---- what isn't read
 
 -- a text that may be no line is that of none
-pub unread : (bytes : List ℕ) (e : UnreadLine) → IsCandidate (Err e) (candidate_in bytes) → IsRead bytes (Err e)
+pub unread : (bytes : List ℕ) (e : Unreadable) → IsCandidate (Err e) (candidate_in bytes) → IsRead bytes (Err e)
 unread bytes NotALine none = λ line formed same.
     let both : ◌≡◌ {A = Option Line} None (Some line) = sym none ∙ ap candidate_in same ∙ candidate_back line formed in
     cc
 unread bytes (NoMemory _) none = tt
+unread bytes NoEventBefore none = none
+unread bytes Unsealed none = none
+unread bytes TornLine none = none
+unread bytes Read none = none
 
 -- and neither is one that isn't the text of what it may be
 pub read_other : (bytes : List ℕ) (l : of_lines.Line) → candidate_in bytes ≡ Some (shown l) → bytes_eq (text_of (shown l)) bytes ≡ false → IsRead bytes (Err NotALine)

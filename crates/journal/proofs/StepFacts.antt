@@ -7,12 +7,11 @@ use Rattle.sealed_log.specs.declared.input.NoBody.TheVariants as bodies
 use Rattle.office_policy.specs.History.{Event}
 use Rattle.journal.specs.declared.events.Step.{Step}
 use Rattle.journal.specs.declared.events.Step.TheVariants.{Stands, Passed, Ended}
-use Rattle.journal.specs.declared.events.Unreadable.{Unreadable}
-use Rattle.journal.specs.declared.reader.Faulty.{Faulty}
-use Rattle.journal.specs.declared.reader.Faulty.TheVariants.{NotALine, NoEventBefore, NoMemory}
+use Rattle.journal.specs.declared.fault.Unreadable.{Unreadable}
+use Rattle.journal.specs.declared.fault.Unreadable.TheVariants.{NotALine, NoEventBefore, Unsealed, TornLine, Read, NoMemory}
 use Rattle.journal.specs.declared.reader.Reader.{Reader}
 use Rattle.journal.specs.Reading.{IsTaken, Takes, held}
-use Rattle.journal.specs.Steps.{IsLast, Steps, body_fault, line_fault}
+use Rattle.journal.specs.Steps.{IsLast, Steps, body_fault}
 use Rattle.journal.specs.Told.{CannotGoOn, CannotTake, GoesOn, Leaves, Place, Stops, standing}
 use Rattle.journal.proofs.ToldFacts.{IsEnd, IsTextOf, ends, ends_told, line_taken, stays, stops_here}
 
@@ -61,8 +60,8 @@ step_taken before held kept stands old new prior seal text given more read there
     line_taken before held kept stands old new prior seal given (text_there old new prior seal text given more read there same) is
 
 -- no line is taken
-cannot_take : (before : ℕ) (was kept : Reader) (old new : Option (List ℕ)) (prior seal given : List ℕ) → IsTextOf old new prior seal given → (fault : Faulty) → Takes before was kept given (Err fault)
-    → IfSome old (λ bytes. CannotTake (line_fault fault) before (held was) prior bytes)
+cannot_take : (before : ℕ) (was kept : Reader) (old new : Option (List ℕ)) (prior seal given : List ℕ) → IsTextOf old new prior seal given → (fault : Unreadable) → Takes before was kept given (Err fault)
+    → IfSome old (λ bytes. CannotTake fault before (held was) prior bytes)
 cannot_take before was kept None new prior seal given text_is fault h = tt
 cannot_take before was kept (Some bytes) new prior seal given text_is NotALine h = elim h.0 [
   | inl other ↦ inl (record { body = given; rest = text_is.rest; is = text_is.is; is_body = text_is.is_body; other = other })
@@ -71,24 +70,30 @@ cannot_take before was kept (Some bytes) new prior seal given text_is NotALine h
 cannot_take before was kept (Some bytes) new prior seal given text_is NoEventBefore h =
     (record { body = given; rest = text_is.rest; is = text_is.is; is_body = text_is.is_body; on = h.0 }, h.1)
 cannot_take before was kept (Some bytes) new prior seal given text_is (NoMemory _) h = tt
+cannot_take before was kept (Some bytes) new prior seal given text_is Unsealed h = absurd h
+cannot_take before was kept (Some bytes) new prior seal given text_is TornLine h = absurd h
+cannot_take before was kept (Some bytes) new prior seal given text_is Read h = absurd h
 
-pub step_refused : (before : ℕ) (was kept : Reader) (old new : Option (List ℕ)) (prior seal text given : List ℕ) (more : Bool) (fault : Faulty)
+pub step_refused : (before : ℕ) (was kept : Reader) (old new : Option (List ℕ)) (prior seal text given : List ℕ) (more : Bool) (fault : Unreadable)
     → ReadsBody old new prior seal text (Ok more) → more ≡ true → given ≡ text → Takes before was kept given (Err fault)
-    → Stops (record { taken = before; held = held was; seal = prior; left = old }) before (line_fault fault)
+    → Stops (record { taken = before; held = held was; seal = prior; left = old }) before fault
 step_refused before was kept old new prior seal text given more fault read there same refused =
-    stops_here before (held was) prior old (line_fault fault) (cannot_take before was kept old new prior seal given (text_there old new prior seal text given more read there same) fault refused)
+    stops_here before (held was) prior old fault (cannot_take before was kept old new prior seal given (text_there old new prior seal text given more read there same) fault refused)
 
 -- the event that was held back still is
-held_still : (before : ℕ) (was kept : Reader) (given : List ℕ) (fault : Faulty) → Takes before was kept given (Err fault) → held kept ≡ held was
+held_still : (before : ℕ) (was kept : Reader) (given : List ℕ) (fault : Unreadable) → Takes before was kept given (Err fault) → held kept ≡ held was
 held_still before was kept given NotALine h = h.1
 held_still before was kept given NoEventBefore h = h.2 ∙ sym h.1
 held_still before was kept given (NoMemory _) h = h
+held_still before was kept given Unsealed h = absurd h
+held_still before was kept given TornLine h = absurd h
+held_still before was kept given Read h = absurd h
 
-pub refused_left : (before : ℕ) (was kept : Reader) (old new : Option (List ℕ)) (prior seal text given : List ℕ) (more : Bool) (result : Result Step Unreadable) (fault : Faulty)
-    → IsErrAnd result (λ e. e ≡ line_fault fault) → ReadsBody old new prior seal text (Ok more) → more ≡ true → given ≡ text → Takes before was kept given (Err fault)
+pub refused_left : (before : ℕ) (was kept : Reader) (old new : Option (List ℕ)) (prior seal text given : List ℕ) (more : Bool) (result : Result Step Unreadable) (fault : Unreadable)
+    → IsErrAnd result (λ e. e ≡ fault) → ReadsBody old new prior seal text (Ok more) → more ≡ true → given ≡ text → Takes before was kept given (Err fault)
     → IfErr result (Leaves (record { taken = before; held = held was; seal = prior; left = old }) (record { taken = before; held = held kept; seal = seal; left = new }))
 refused_left before was kept old new prior seal text given more result fault is read there same refused =
-    leaves_at (record { taken = before; held = held was; seal = prior; left = old }) (record { taken = before; held = held kept; seal = seal; left = new }) result (line_fault fault) is
+    leaves_at (record { taken = before; held = held was; seal = prior; left = old }) (record { taken = before; held = held kept; seal = seal; left = new }) result fault is
     (cannot_take before was kept old new prior seal given (text_there old new prior seal text given more read there same) fault refused) refl (held_still before was kept given fault refused)
 
 pub step_last : (before : ℕ) (held kept : Option Event) (old new : Option (List ℕ)) (prior seal text : List ℕ) (more : Bool) (step : Step) → ReadsBody old new prior seal text (Ok more)

@@ -5,8 +5,8 @@ use Rattle.std.proofs.lemmas.List.Elements.{All-nil, All-cons, All-head, All-tai
 use Rattle.sealed_log.specs.Input.{IsBodyOf, IsTooLong, IsUnsealed}
 use Rattle.sealed_log.specs.Sealed.{IsBody, seal_on, sealed_line}
 use Rattle.office_policy.specs.History.{Event}
-use Rattle.journal.specs.declared.events.Unreadable.{Unreadable}
-use Rattle.journal.specs.declared.events.Unreadable.TheVariants.{NotALine, NoEventBefore, Unsealed, TornLine, Read, NoMemory}
+use Rattle.journal.specs.declared.fault.Unreadable.{Unreadable}
+use Rattle.journal.specs.declared.fault.Unreadable.TheVariants.{NotALine, NoEventBefore, Unsealed, TornLine, Read, NoMemory}
 use Rattle.journal.specs.Journal.{IsEntry, taken}
 use Rattle.journal.specs.Lines.{Line, text_of}
 use Rattle.journal.specs.Reading.{IsTaken}

@@ -6,9 +6,8 @@ use Rattle.office_policy.specs.History.{Event, History}
 use Rattle.office_policy.specs.Runs.{with_event}
 use Rattle.office_policy.specs.declared.event.Event as values
 use Rattle.journal.specs.declared.kept.Kept.{Kept}
-use Rattle.journal.specs.declared.reader.Faulty.{Faulty}
-use Rattle.journal.specs.declared.reader.Faulty.TheVariants.{NotALine, NoEventBefore}
-use Rattle.journal.specs.declared.reader.Faulty.TheVariants.{NoMemory}
+use Rattle.journal.specs.declared.fault.Unreadable.{Unreadable}
+use Rattle.journal.specs.declared.fault.Unreadable.TheVariants.{NotALine, NoEventBefore, NoMemory}
 use Rattle.journal.specs.declared.writers.Writers.{Writers as TheWriters}
 use Rattle.journal.specs.Journal.{IsEntry, Says, taken}
 use Rattle.journal.specs.Lines.{Line, text_of}
@@ -44,10 +43,11 @@ abbrev pub SaysNone : List (List ℕ) → Type 0
 SaysNone bodies = (h : History) → Says bodies h → ⊥
 
 -- why a line can't stand where it does
-abbrev pub IsFaulty : List (List ℕ) → Faulty → Type 0
+abbrev pub IsFaulty : List (List ℕ) → Unreadable → Type 0
 IsFaulty bodies NotALine = SaysNone bodies
 IsFaulty bodies NoEventBefore = SaysNone bodies
 IsFaulty bodies (NoMemory _) = Unit {0}
+IsFaulty bodies why = ⊥
 
 -- the writers, and behind them an event where one stands
 abbrev pub with_stood : Option Event → Writers → Writers
@@ -56,7 +56,7 @@ with_stood (Some e) w = with_writer e w
 
 -- A line is taken, and the event that stands by it is a writer; or it can't stand there. There may be no
 -- memory.
-abbrev pub TakesBody : ℕ → List ℕ → Kept → Kept → Result ⊤ Faulty → Type 0
+abbrev pub TakesBody : ℕ → List ℕ → Kept → Kept → Result ⊤ Unreadable → Type 0
 TakesBody before body old new (Ok done) =
     (stands : Option Event) × IsTaken before (held old.reader) (held new.reader) body stands
     × (writers_meant new.settled ≡ with_stood stands (writers_meant old.settled))
@@ -64,8 +64,9 @@ TakesBody before body old new (Err NotALine) =
     ((line : Line) → IsFormed line → body ≢ text_of line) ⊎ IsOfOther before body
 TakesBody before body old new (Err NoEventBefore) = IsOnEvent body × (held old.reader ≡ None)
 TakesBody before body old new (Err (NoMemory _)) = Unit {0}
+TakesBody before body old new (Err why) = ⊥
 
-abbrev pub keeps_by : Option Faulty → List (List ℕ) → Kept → Type 0
+abbrev pub keeps_by : Option Unreadable → List (List ℕ) → Kept → Type 0
 keeps_by None bodies k = IsKept bodies (writers_meant k.settled) (held k.reader)
 keeps_by (Some fault) bodies k = IsFaulty bodies fault
 
@@ -74,7 +75,7 @@ abbrev pub keeps : List (List ℕ) → Kept → Type 0
 keeps bodies k = keeps_by k.fault bodies k
 
 -- what is told of bodies in the end: the writers and the event that is held back, or the fault of a line
-abbrev pub EndsAs : List (List ℕ) → Result (TheWriters × Option values.Event) Faulty → Type 0
+abbrev pub EndsAs : List (List ℕ) → Result (TheWriters × Option values.Event) Unreadable → Type 0
 EndsAs bodies (Ok (writers, event)) =
     IsKept bodies (writers_meant writers) (option_map event_meant event)
 EndsAs bodies (Err fault) = IsFaulty bodies fault

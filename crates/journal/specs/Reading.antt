@@ -3,9 +3,8 @@ use Rattle.std.specs.Prelude.{◌≡◌, ◌≢◌, ◌⊎◌, ℕ, List, Option
 use Rattle.office_policy.specs.History.{Event}
 use Rattle.office_policy.specs.Happened.{event_meant}
 use Rattle.office_policy.specs.declared.event.Event as values
-use Rattle.journal.specs.declared.reader.Faulty.{Faulty}
-use Rattle.journal.specs.declared.reader.Faulty.TheVariants.{NotALine, NoEventBefore}
-use Rattle.journal.specs.declared.reader.Faulty.TheVariants.{NoMemory}
+use Rattle.journal.specs.declared.fault.Unreadable.{Unreadable}
+use Rattle.journal.specs.declared.fault.Unreadable.TheVariants.{NotALine, NoEventBefore, NoMemory}
 use Rattle.journal.specs.declared.reader.Reader.{Reader}
 use Rattle.journal.specs.Forms.{IsFormed}
 use Rattle.journal.specs.Journal.{taken}
@@ -39,7 +38,7 @@ pub record IsOnEvent (text : List ℕ) : Type 0 where
   pub needs : (before : ℕ) → taken before None line ≡ None
 
 -- a line behind so many is taken, or it can't stand here and nothing is taken
-abbrev pub Takes : ℕ → Reader → Reader → List ℕ → Result (Option values.Event) Faulty → Type 0
+abbrev pub Takes : ℕ → Reader → Reader → List ℕ → Result (Option values.Event) Unreadable → Type 0
 Takes before old new text (Ok stands) =
     IsTaken before (held old) (held new) text (option_map event_meant stands)
 Takes before old new text (Err NotALine) =
@@ -48,11 +47,12 @@ Takes before old new text (Err NotALine) =
 Takes before old new text (Err NoEventBefore) =
     IsOnEvent text × (held old ≡ None) × (held new ≡ None)
 Takes before old new text (Err (NoMemory _)) = held new ≡ held old
+Takes before old new text (Err why) = ⊥
 
 -- what becomes of a line that says that one is carried out
-abbrev pub Settles : (before of : ℕ) → Reader → Reader → Result (Option values.Event) Faulty → Type 0
+abbrev pub Settles : (before of : ℕ) → Reader → Reader → Result (Option values.Event) Unreadable → Type 0
 Settles before of old new (Ok stands) =
     taken before (held old) (done of) ≡ Some (option_map event_meant stands, held new)
 Settles before of old new (Err NotALine) = (of ≢ before) × (held new ≡ held old)
 Settles before of old new (Err NoEventBefore) = (held old ≡ None) × (held new ≡ None)
-Settles before of old new (Err (NoMemory _)) = ⊥
+Settles before of old new (Err why) = ⊥

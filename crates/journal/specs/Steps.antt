@@ -5,10 +5,8 @@ use Rattle.sealed_log.specs.declared.input.NoBody.TheVariants as bodies
 use Rattle.office_policy.specs.History.{Event}
 use Rattle.journal.specs.declared.events.Step.{Step}
 use Rattle.journal.specs.declared.events.Step.TheVariants.{Stands, Passed, Ended}
-use Rattle.journal.specs.declared.events.Unreadable.{Unreadable}
-use Rattle.journal.specs.declared.events.Unreadable.TheVariants as unreadable
-use Rattle.journal.specs.declared.reader.Faulty.{Faulty}
-use Rattle.journal.specs.declared.reader.Faulty.TheVariants as faulty
+use Rattle.journal.specs.declared.fault.Unreadable.{Unreadable}
+use Rattle.journal.specs.declared.fault.Unreadable.TheVariants as unreadable
 use Rattle.journal.specs.Told.{Ends, GoesOn, Place, Stops, placed_meant}
 use Rattle.journal.specs.Told.{standing}
 
@@ -19,12 +17,6 @@ body_fault bodies.TooLong = unreadable.NotALine
 body_fault bodies.Torn = unreadable.TornLine
 body_fault bodies.Read = unreadable.Read
 body_fault (bodies.NoMemory refused) = unreadable.NoMemory refused
-
--- why a line isn't taken
-abbrev pub line_fault : Faulty → Unreadable
-line_fault faulty.NotALine = unreadable.NotALine
-line_fault faulty.NoEventBefore = unreadable.NoEventBefore
-line_fault (faulty.NoMemory refused) = unreadable.NoMemory refused
 
 -- the event that was held back stands, where one was, at the line of this number
 abbrev pub IsLast : ℕ → Option Event → Step → Type 0

@@ -10,10 +10,9 @@ use Rattle.office_policy.specs.History.{Event, History}
 use Rattle.office_policy.specs.Happened.{event_meant}
 use Rattle.journal.specs.declared.events.Events.{Events}
 use Rattle.journal.specs.declared.events.Placed.{Placed}
-use Rattle.journal.specs.declared.events.Unreadable.{Unreadable}
-use Rattle.journal.specs.declared.events.Unreadable.TheVariants.{NotALine, NoEventBefore}
-use Rattle.journal.specs.declared.events.Unreadable.TheVariants.{Unsealed, TornLine, Read}
-use Rattle.journal.specs.declared.events.Unreadable.TheVariants.{NoMemory}
+use Rattle.journal.specs.declared.fault.Unreadable.{Unreadable}
+use Rattle.journal.specs.declared.fault.Unreadable.TheVariants.{NotALine, NoEventBefore, NoMemory}
+use Rattle.journal.specs.declared.fault.Unreadable.TheVariants.{Unsealed, TornLine, Read}
 use Rattle.journal.specs.Forms.{IsFormed}
 use Rattle.journal.specs.Journal.{IsEntry, IsJournalOf, taken}
 use Rattle.journal.specs.Lines.{Line, text_of}

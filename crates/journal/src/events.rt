@@ -4,85 +4,18 @@ ghost use Rattle.std.specs.Prelude.{◌≡◌, ◌<◌, ◌^◌, ◌-◌, ℕ, L
 ghost use Rattle.std.specs.Prelude.{option_map};
 ghost use Rattle.journal.specs.Reading.{held};
 ghost use Rattle.journal.specs.SealsAt.{Finds, IsSeen};
-ghost use Rattle.journal.specs.Steps.{IsLast, Steps, body_fault, line_fault};
+ghost use Rattle.journal.specs.Steps.{IsLast, Steps};
 ghost use Rattle.journal.specs.Told.{Gives, KeepsFault, Leaves, held_at, place};
 ghost use Rattle.journal.specs.Told.{placed_meant, start, without_held};
 
-use crate::reader::{Faulty, Reader};
+use crate::fault::Unreadable;
+use crate::reader::Reader;
 use crate::seal_at::SealAt;
-use no_memory::NoMemory;
 use office_policy::Event;
-use sealed_log::{NoBody, Seal, no_seal, read_body};
+use sealed_log::{Seal, no_seal, read_body};
 use std::alloc::Global;
-use std::error::Error;
-use std::fmt;
 use std::io::BufRead;
 use std::mem::replace;
-
-/// Why a journal can't be read on. Its text is one word.
-#[derive(Clone, Copy, Debug, Drop, PartialEq, Eq)]
-pub enum Unreadable {
-    /// The line is too long, its body is that of none, or it says of another line than the one
-    /// before that it is carried out.
-    NotALine,
-    /// The line strikes out the one before it, or says that it is carried out, and that one says
-    /// nothing that happened.
-    NoEventBefore,
-    /// The line isn't sealed behind those before it.
-    Unsealed,
-    /// The journal ends within the line: it has no line feed.
-    TornLine,
-    /// The input failed, or gave 2^64 - 1 lines. No contract can say when.
-    Read,
-    /// There was no memory to read the line.
-    NoMemory(NoMemory),
-}
-
-impl fmt::Display for Unreadable {
-    ghost use Rattle.std.specs.Prelude.{Some};
-    ghost use Rattle.journal.specs.FaultTexts.{unreadable_word};
-
-    ghost output = { λ fault. Some (unreadable_word fault) };
-
-    fn fmt<W: fmt::Write>(&self, f: &mut fmt::Formatter<W>) -> fmt::Result {
-        f.write_str(match self {
-            Unreadable::NotALine => "not-a-line",
-            Unreadable::NoEventBefore => "no-event-before",
-            Unreadable::Unsealed => "unsealed",
-            Unreadable::TornLine => "torn-line",
-            Unreadable::Read => "read",
-            Unreadable::NoMemory(_) => "memory",
-        })
-    }
-}
-
-impl Error for Unreadable {}
-
-impl From<Faulty> for Unreadable {
-    ghost from_gives = { λ fault e. e ≡ line_fault fault };
-
-    fn from(fault: Faulty) -> Unreadable {
-        match fault {
-            Faulty::NotALine => Unreadable::NotALine,
-            Faulty::NoEventBefore => Unreadable::NoEventBefore,
-            Faulty::NoMemory(witness) => Unreadable::NoMemory(witness),
-        }
-    }
-}
-
-impl From<NoBody> for Unreadable {
-    ghost from_gives = { λ fault e. e ≡ body_fault fault };
-
-    fn from(fault: NoBody) -> Unreadable {
-        match fault {
-            NoBody::Unsealed => Unreadable::Unsealed,
-            NoBody::TooLong => Unreadable::NotALine,
-            NoBody::Torn => Unreadable::TornLine,
-            NoBody::Read => Unreadable::Read,
-            NoBody::NoMemory(witness) => Unreadable::NoMemory(witness),
-        }
-    }
-}
 
 /// An event that stands, with the number of its line, from 1.
 #[derive(Debug, Drop)]

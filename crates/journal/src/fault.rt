@@ -1,28 +1,75 @@
-//! Why no line was read of a text.
+//! Why a journal can't be read on.
+
+ghost use Rattle.std.specs.Prelude.{◌≡◌};
 
 use no_memory::NoMemory;
+use sealed_log::NoBody;
 use std::alloc::AllocError;
-use thiserror::Error;
+use std::error::Error;
+use std::fmt;
 
-/// Why no line was read of a text.
-#[derive(Clone, Copy, Debug, Drop, PartialEq, Eq, Error)]
-pub enum UnreadLine {
-    /// The text is that of no line.
-    #[error("not-a-line")]
+/// Why a journal can't be read on. Its text is one word.
+#[derive(Clone, Copy, Debug, Drop, PartialEq, Eq)]
+pub enum Unreadable {
+    /// The line is too long, its body is that of none, or it says of another line than the one
+    /// before that it is carried out.
     NotALine,
-    /// There was no memory to read it.
-    #[error("memory")]
+    /// The line strikes out the one before it, or says that it is carried out, and that one says
+    /// nothing that happened.
+    NoEventBefore,
+    /// The line isn't sealed behind those before it.
+    Unsealed,
+    /// The journal ends within the line: it has no line feed.
+    TornLine,
+    /// The input failed, or gave 2^64 - 1 lines. No contract can say when.
+    Read,
+    /// There was no memory to read the line.
     NoMemory(NoMemory),
 }
 
-impl From<AllocError> for UnreadLine {
-    ghost use Rattle.std.specs.Prelude.{◌≡◌};
-    ghost use Rattle.journal.specs.declared.fault.UnreadLine.TheVariants.{NoMemory};
+impl fmt::Display for Unreadable {
+    ghost use Rattle.std.specs.Prelude.{Some};
+    ghost use Rattle.journal.specs.FaultTexts.{unreadable_word};
+
+    ghost output = { λ fault. Some (unreadable_word fault) };
+
+    fn fmt<W: fmt::Write>(&self, f: &mut fmt::Formatter<W>) -> fmt::Result {
+        f.write_str(match self {
+            Unreadable::NotALine => "not-a-line",
+            Unreadable::NoEventBefore => "no-event-before",
+            Unreadable::Unsealed => "unsealed",
+            Unreadable::TornLine => "torn-line",
+            Unreadable::Read => "read",
+            Unreadable::NoMemory(_) => "memory",
+        })
+    }
+}
+
+impl Error for Unreadable {}
+
+impl From<AllocError> for Unreadable {
+    ghost use Rattle.journal.specs.declared.fault.Unreadable.TheVariants.{NoMemory};
     ghost use Rattle.no_memory.specs.Witness.{witness};
 
     ghost from_gives = { λ _ e. e ≡ NoMemory witness };
 
-    fn from(refused: AllocError) -> UnreadLine {
-        UnreadLine::NoMemory(refused.into())
+    fn from(refused: AllocError) -> Unreadable {
+        Unreadable::NoMemory(refused.into())
+    }
+}
+
+impl From<NoBody> for Unreadable {
+    ghost use Rattle.journal.specs.Steps.{body_fault};
+
+    ghost from_gives = { λ fault e. e ≡ body_fault fault };
+
+    fn from(fault: NoBody) -> Unreadable {
+        match fault {
+            NoBody::Unsealed => Unreadable::Unsealed,
+            NoBody::TooLong => Unreadable::NotALine,
+            NoBody::Torn => Unreadable::TornLine,
+            NoBody::Read => Unreadable::Read,
+            NoBody::NoMemory(witness) => Unreadable::NoMemory(witness),
+        }
     }
 }

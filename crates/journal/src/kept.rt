@@ -3,7 +3,8 @@
 ghost use Rattle.std.specs.Prelude.{◌≡◌, List, ℕ, []};
 ghost use Rattle.journal.specs.Kept.{EndsAs, TakesBody, keeps};
 
-use crate::reader::{Faulty, Reader};
+use crate::fault::Unreadable;
+use crate::reader::Reader;
 use crate::writers::Writers;
 use office_policy::Event;
 use sealed_log::Keeps;
@@ -15,7 +16,7 @@ use std::alloc::Global;
 pub struct Kept {
     settled: Writers,
     reader: Reader,
-    fault: Option<Faulty>,
+    fault: Option<Unreadable>,
 }
 
 impl Kept {
@@ -31,25 +32,23 @@ impl Kept {
     }
 
     // Takes the next line, behind so many.
-    fn take(&mut self, alloc: Global, before: u64, body: &[u8]) -> Result<(), Faulty>
+    fn take(&mut self, alloc: Global, before: u64, body: &[u8]) -> Result<(), Unreadable>
         ensures same { self.new.fault ≡ self.old.fault }
         ensures takes { TakesBody before body.now self.old self.new result }
     {
         let Some(event) = self.reader.take(alloc, before, body)? else {
             return Ok(());
         };
-        match self.settled.put(alloc, event) {
-            Ok(()) => Ok(()),
-            Err(refused) => Err(Faulty::NoMemory(refused.into())),
-        }
+        self.settled.put(alloc, event)?;
+        Ok(())
     }
 
     /// The newest events that are settled, and the one that is held back.
     ///
     /// # Errors
     ///
-    /// Why a line can't stand where it does.
-    pub fn end(self) -> Result<(Writers, Option<Event>), Faulty>
+    /// A line can't stand where it does (`NotALine`, `NoEventBefore`), or memory failed.
+    pub fn end(self) -> Result<(Writers, Option<Event>), Unreadable>
         ensures { (bodies : List (List ℕ)) → keeps bodies self → EndsAs bodies result }
     {
         match self.fault {

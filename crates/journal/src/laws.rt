@@ -12,7 +12,7 @@ ghost use Rattle.office_policy.specs.Lawful.{IsAllowed, IsFounding, IsLawfulHist
 ghost use Rattle.office_policy.specs.Ran.{HaveRun};
 ghost use Rattle.office_policy.specs.TablesOf.{tables_of};
 ghost use Rattle.journal.specs.declared.journaled.Journaled.{Journaled};
-ghost use Rattle.journal.specs.declared.events.Unreadable.{Unreadable};
+ghost use Rattle.journal.specs.declared.fault.Unreadable.{Unreadable};
 ghost use Rattle.journal.specs.Examples.{founding, enrolment, submission, vote, issue};
 ghost use Rattle.journal.specs.Examples.{withdrawal, adoption, hold, release, founding_text};
 ghost use Rattle.journal.specs.Examples.{enrolment_text, submission_text, vote_text};

@@ -18,13 +18,13 @@ pub mod reader;
 mod seal_at;
 mod writers;
 
-pub use events::{Events, Placed, Unreadable};
-pub use fault::UnreadLine;
+pub use events::{Events, Placed};
+pub use fault::Unreadable;
 pub use journal::Journal;
 pub use journaled::Journaled;
 pub use kept::Kept;
 pub use line::Line;
 pub use print::{change_text, text};
 pub use read::read_line;
-pub use reader::{Faulty, Reader};
+pub use reader::Reader;
 pub use writers::Writers;

@@ -7,7 +7,7 @@ ghost use Rattle.journal.specs.Lines.{text_of};
 ghost use Rattle.journal.specs.Read.{candidate_in};
 ghost use Rattle.journal.specs.Shown.{shown};
 
-use crate::fault::UnreadLine;
+use crate::fault::Unreadable;
 use crate::line::Line;
 use crate::part::candidate_of;
 use crate::print::text;
@@ -17,18 +17,18 @@ use std::alloc::{AllocError, Global};
 
 // What a text may be.
 #[tactic(auto, using(crate::proofs::LineFacts::candidate_is, crate::proofs::LineFacts::candidate_none))]
-fn candidate(alloc: Global, bytes: &[u8]) -> Result<Line, UnreadLine>
+fn candidate(alloc: Global, bytes: &[u8]) -> Result<Line, Unreadable>
     ensures { IsCandidate result (candidate_in bytes.now) }
 {
     let mut scratch = Scratch::new(alloc);
     match Tree::from_slice(alloc, bytes, &mut scratch) {
         Ok(value) => match candidate_of(alloc, &value) {
             Ok(line) => Ok(line),
-            Err(LineFault::NotJson | LineFault::NotARequest) => Err(UnreadLine::NotALine),
-            Err(LineFault::NoMemory(witness)) => Err(UnreadLine::NoMemory(witness)),
+            Err(LineFault::NotJson | LineFault::NotARequest) => Err(Unreadable::NotALine),
+            Err(LineFault::NoMemory(witness)) => Err(Unreadable::NoMemory(witness)),
         },
-        Err(ReadFault::NotJson) => Err(UnreadLine::NotALine),
-        Err(ReadFault::NoMemory(witness)) => Err(UnreadLine::NoMemory(witness)),
+        Err(ReadFault::NotJson) => Err(Unreadable::NotALine),
+        Err(ReadFault::NoMemory(witness)) => Err(Unreadable::NoMemory(witness)),
     }
 }
 
@@ -43,14 +43,18 @@ fn is_its_text(alloc: Global, line: &Line, bytes: &[u8]) -> Result<bool, AllocEr
 
 /// The line that a text is, which is passed without its line feed. It is read where it is the
 /// line's text to the byte: each line has one text.
+///
+/// # Errors
+///
+/// It is that of no line (`NotALine`), or memory fails.
 #[tactic(auto, using(crate::proofs::LineFacts::unread, crate::proofs::LineFacts::read_same, crate::proofs::LineFacts::read_other))]
-pub fn read_line(alloc: Global, bytes: &[u8]) -> Result<Line, UnreadLine>
+pub fn read_line(alloc: Global, bytes: &[u8]) -> Result<Line, Unreadable>
     ensures { IsRead bytes.now result }
 {
     let line = candidate(alloc, bytes)?;
     if is_its_text(alloc, &line, bytes)? {
         Ok(line)
     } else {
-        Err(UnreadLine::NotALine)
+        Err(Unreadable::NotALine)
     }
 }

@@ -4,29 +4,11 @@ ghost use Rattle.std.specs.Prelude.{◌≡◌, None, option_map};
 ghost use Rattle.office_policy.specs.Happened.{event_meant};
 ghost use Rattle.journal.specs.Reading.{Settles, Takes, held};
 
-use crate::fault::UnreadLine;
+use crate::fault::Unreadable;
 use crate::line::Line;
 use crate::read::read_line;
-use no_memory::NoMemory;
 use office_policy::Event;
 use std::alloc::Global;
-use thiserror::Error;
-
-/// Why a line can't stand in a journal after those before it.
-#[derive(Clone, Copy, Debug, Drop, PartialEq, Eq, Error)]
-pub enum Faulty {
-    /// The text is that of no line, or says of another line than the one before that it is carried
-    /// out.
-    #[error("not-a-line")]
-    NotALine,
-    /// The line strikes out the one before it, or says that it is carried out, and that one says
-    /// nothing that happened.
-    #[error("no-event-before")]
-    NoEventBefore,
-    /// There was no memory to read it.
-    #[error("memory")]
-    NoMemory(NoMemory),
-}
 
 /// Reads a journal, the oldest line first. The event of the last line is held back, since the next
 /// line may strike it out; no other is kept.
@@ -45,30 +27,37 @@ impl Reader {
 
     /// Takes the text of the next line, without its line feed, which comes behind so many lines: the
     /// event before it, where that stands.
-    pub fn take(&mut self, alloc: Global, before: u64, text: &[u8]) -> Result<Option<Event>, Faulty>
+    ///
+    /// # Errors
+    ///
+    /// The line can't stand there (`NotALine`, `NoEventBefore`), or memory fails.
+    pub fn take(
+        &mut self,
+        alloc: Global,
+        before: u64,
+        text: &[u8],
+    ) -> Result<Option<Event>, Unreadable>
         ensures { Takes before self.old self.new text.now result }
     {
-        match read_line(alloc, text) {
-            Ok(Line::Event(event)) => Ok(self.held.replace(event)),
-            Ok(Line::Strike) => match self.held.take() {
+        match read_line(alloc, text)? {
+            Line::Event(event) => Ok(self.held.replace(event)),
+            Line::Strike => match self.held.take() {
                 Some(_) => Ok(None),
-                None => Err(Faulty::NoEventBefore),
+                None => Err(Unreadable::NoEventBefore),
             },
-            Ok(Line::Done { of }) => self.settle(before, of),
-            Err(UnreadLine::NotALine) => Err(Faulty::NotALine),
-            Err(UnreadLine::NoMemory(witness)) => Err(Faulty::NoMemory(witness)),
+            Line::Done { of } => self.settle(before, of),
         }
     }
 
     // Takes a line, behind so many, that says that the line of this number is carried out.
-    fn settle(&mut self, before: u64, of: u64) -> Result<Option<Event>, Faulty>
+    fn settle(&mut self, before: u64, of: u64) -> Result<Option<Event>, Unreadable>
         ensures { Settles before of self.old self.new result }
     {
         if self.held.is_none() {
-            return Err(Faulty::NoEventBefore);
+            return Err(Unreadable::NoEventBefore);
         }
         if of != before {
-            return Err(Faulty::NotALine);
+            return Err(Unreadable::NotALine);
         }
         Ok(self.held.take())
     }

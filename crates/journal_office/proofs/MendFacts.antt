@@ -26,8 +26,8 @@ use Rattle.office_policy.specs.ShowsEvent.{Shows}
 use Rattle.office_policy.specs.TablesOf.{tables_of}
 use Rattle.office_policy.proofs.ShownFacts.{last_shown, shown_unchanged}
 use Rattle.office_policy.proofs.SurvivalFacts.{left_itself}
-use Rattle.journal.specs.declared.reader.Faulty.{Faulty}
-use Rattle.journal.specs.declared.reader.Faulty.TheVariants as faulty
+use Rattle.journal.specs.declared.fault.Unreadable.{Unreadable}
+use Rattle.journal.specs.declared.fault.Unreadable.TheVariants as unreadable
 use Rattle.journal.specs.Journal.{EndsWithEvent, Says, history_in}
 use Rattle.journal.specs.Kept.{IsFaulty, IsKept, SaysNone, Settled, with_stood}
 use Rattle.journal.specs.Lines.{Line, happened, strike, text_of}
@@ -299,10 +299,13 @@ module _ {X D : Type 0} (m : Meaning X) (g : Ghosts D) (mark : ℕ) where
     }
 
     -- a line of it can't stand where it does
-    pub no_journal : (fault : Faulty) → (IsTrue (g.is_clean after.disk) → IsFaulty (bodies_of g before) fault) → Mends m g mark x x before after (Err (line_fault fault))
-    no_journal faulty.NotALine none = no_history none
-    no_journal faulty.NoEventBefore none = no_history none
-    no_journal (faulty.NoMemory _) none = not_read (NoMemory witness) tt (λ clean. tt)
+    pub no_journal : (fault : Unreadable) → (IsTrue (g.is_clean after.disk) → IsFaulty (bodies_of g before) fault) → Mends m g mark x x before after (Err (line_fault fault))
+    no_journal unreadable.NotALine none = no_history none
+    no_journal unreadable.NoEventBefore none = no_history none
+    no_journal unreadable.Unsealed none = no_history (λ clean. absurd (none clean))
+    no_journal unreadable.TornLine none = no_history (λ clean. absurd (none clean))
+    no_journal unreadable.Read none = not_read Log tt (λ clean. absurd (none clean))
+    no_journal (unreadable.NoMemory _) none = not_read (NoMemory witness) tt (λ clean. tt)
 
     module _ (found : Through) (through : IsTrue (g.is_clean after.disk) → IsThrough (g.seen before.disk) found) where
       none_told : found.lines ≡ 0 → IsTrue (g.is_clean after.disk) → bodies_of g before ≡ []

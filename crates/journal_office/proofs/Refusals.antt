@@ -8,7 +8,7 @@ use Rattle.office_policy.specs.History.{Event}
 use Rattle.office_policy.specs.Lawful.{IsFounding}
 use Rattle.office_policy.specs.Meaning.{Meaning}
 use Rattle.office_desk.specs.Meant.{meaning_over}
-use Rattle.journal.specs.declared.events.Unreadable.{Unreadable}
+use Rattle.journal.specs.declared.fault.Unreadable.{Unreadable}
 use Rattle.journal.specs.Told.{GoesOn, Leaves, Place, held_at, start}
 use Rattle.journal_office.specs.declared.refused.Refused.{Refused}
 use Rattle.journal_office.specs.declared.refused.Why.{Why}

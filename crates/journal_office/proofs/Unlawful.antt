@@ -9,8 +9,8 @@ use Rattle.office_policy.specs.Meaning.{Meaning}
 use Rattle.office_desk.specs.declared.replay.Unreplayed.TheVariants as causes
 use Rattle.office_desk.specs.Meant.{meaning_over}
 use Rattle.office_desk.specs.Replayed.{IsRefused as IsDenied}
-use Rattle.journal.specs.declared.events.Unreadable.{Unreadable}
-use Rattle.journal.specs.declared.events.Unreadable.TheVariants as unreadable
+use Rattle.journal.specs.declared.fault.Unreadable.{Unreadable}
+use Rattle.journal.specs.declared.fault.Unreadable.TheVariants as unreadable
 use Rattle.journal.specs.Journal.{IsJournalOf}
 use Rattle.journal.specs.Told.{GoesOn, IsOutside, Place, history_told, start}
 use Rattle.journal.proofs.FaultFacts.{no_fault}

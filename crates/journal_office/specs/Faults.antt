@@ -4,18 +4,21 @@ use Rattle.sqlite_disk.specs.declared.Disk.{Ghosts}
 use Rattle.sealed_log.specs.Faults.{IsOfCall}
 use Rattle.sealed_log.specs.declared.fault.LogFault.{LogFault}
 use Rattle.sealed_log.specs.declared.fault.LogFault.TheVariants as logs
-use Rattle.journal.specs.declared.reader.Faulty.{Faulty}
-use Rattle.journal.specs.declared.reader.Faulty.TheVariants as faulty
+use Rattle.journal.specs.declared.fault.Unreadable.{Unreadable}
+use Rattle.journal.specs.declared.fault.Unreadable.TheVariants as unreadable
 use Rattle.journal_office.specs.declared.not_reopened.NotReopened.{NotReopened}
 use Rattle.journal_office.specs.declared.not_reopened.NotReopened.TheVariants.{Unsealed, NotALine}
 use Rattle.journal_office.specs.declared.not_reopened.NotReopened.TheVariants.{Changed, OtherJournal}
 use Rattle.journal_office.specs.declared.not_reopened.NotReopened.TheVariants.{Office, Log, NoMemory}
 
--- why a line can't stand where it does
-abbrev pub line_fault : Faulty → NotReopened
-line_fault faulty.NotALine = NotALine
-line_fault faulty.NoEventBefore = NotALine
-line_fault (faulty.NoMemory refused) = NoMemory refused
+-- why a line can't stand where it does, or can't be read
+abbrev pub line_fault : Unreadable → NotReopened
+line_fault unreadable.NotALine = NotALine
+line_fault unreadable.NoEventBefore = NotALine
+line_fault unreadable.Unsealed = NotALine
+line_fault unreadable.TornLine = NotALine
+line_fault unreadable.Read = Log
+line_fault (unreadable.NoMemory refused) = NoMemory refused
 
 -- why the file of a journal can't be used
 abbrev pub log_fault : LogFault → NotReopened

@@ -16,8 +16,8 @@ use Rattle.office_desk.specs.declared.replay.Unreplayed.{Unreplayed}
 use Rattle.office_desk.specs.declared.replay.Unreplayed.TheVariants as causes
 use Rattle.office_desk.specs.Meant.{meaning_over}
 use Rattle.office_desk.specs.Replayed.{IsReplayed}
-use Rattle.journal.specs.declared.events.Unreadable.{Unreadable}
-use Rattle.journal.specs.declared.events.Unreadable.TheVariants as unreadable
+use Rattle.journal.specs.declared.fault.Unreadable.{Unreadable}
+use Rattle.journal.specs.declared.fault.Unreadable.TheVariants as unreadable
 use Rattle.journal.specs.Journal.{IsJournalOf, IsSealedJournal}
 use Rattle.journal.specs.Told.{CannotGoOn, GoesOn, Place, Tells, history_told, start}
 use Rattle.journal_office.specs.declared.office.Rebuilt.{Rebuilt}

@@ -1,6 +1,6 @@
 //! Why an office and its journal aren't opened again.
 
-use journal::Faulty;
+use journal::Unreadable;
 use no_memory::NoMemory;
 use review_policy::Fault;
 use sealed_log::LogFault;
@@ -77,16 +77,20 @@ impl From<AllocError> for NotReopened {
     }
 }
 
-impl From<Faulty> for NotReopened {
+impl From<Unreadable> for NotReopened {
     ghost use Rattle.std.specs.Prelude.{◌≡◌};
     ghost use Rattle.journal_office.specs.Faults.{line_fault};
 
     ghost from_gives = { λ why e. e ≡ line_fault why };
 
-    fn from(why: Faulty) -> NotReopened {
+    fn from(why: Unreadable) -> NotReopened {
         match why {
-            Faulty::NotALine | Faulty::NoEventBefore => NotReopened::NotALine,
-            Faulty::NoMemory(witness) => NotReopened::NoMemory(witness),
+            Unreadable::NotALine
+            | Unreadable::NoEventBefore
+            | Unreadable::Unsealed
+            | Unreadable::TornLine => NotReopened::NotALine,
+            Unreadable::Read => NotReopened::Log,
+            Unreadable::NoMemory(witness) => NotReopened::NoMemory(witness),
         }
     }
 }

@@ -15,7 +15,7 @@ use Rattle.office_policy.specs.Meaning.{Meaning}
 use Rattle.office_desk.specs.Looking.{HasLookedBack}
 use Rattle.office_desk.specs.Meant.{meaning_over}
 use Rattle.office_desk.specs.Replayed.{HasHappened}
-use Rattle.journal.specs.declared.events.Unreadable.{Unreadable}
+use Rattle.journal.specs.declared.fault.Unreadable.{Unreadable}
 use Rattle.journal.specs.Told.{Begins, Ends, GoesOn, Place, Tells, held_at, history_told, standing, start}
 use Rattle.journal.proofs.ToldFacts.{begins_first, stays, still_known}
 use Rattle.journal_office.specs.declared.refused.Refused.{Refused}

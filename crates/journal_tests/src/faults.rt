@@ -1,6 +1,6 @@
 //! The words of the faults of logs and of journals, where no command and no line shows them.
 
-use journal::{Faulty, UnreadLine, Unreadable};
+use journal::Unreadable;
 use no_memory::NoMemory;
 use sealed_log::{LogFault, NoBody};
 use std::alloc::AllocError;
@@ -22,24 +22,15 @@ fn push_logs(text: &mut String) -> Result<(), AllocError> {
 // And those of journals and their lines.
 fn push_journals(text: &mut String) -> Result<(), AllocError> {
     let witness = NoMemory::told();
-    writeln!(
-        text,
-        "{} {}",
-        UnreadLine::NotALine,
-        UnreadLine::NoMemory(witness)
-    )?;
-    let (not_a_line, nothing) = (Faulty::NotALine, Faulty::NoEventBefore);
-    writeln!(text, "{not_a_line} {nothing} {}", Faulty::NoMemory(witness))?;
+    let (not_a_line, nothing) = (Unreadable::NotALine, Unreadable::NoEventBefore);
     let (read, memory) = (Unreadable::Read, Unreadable::NoMemory(witness));
-    writeln!(text, "{read} {memory}")
+    writeln!(text, "{not_a_line} {nothing} {read} {memory}")
 }
 
 const WORDS: &str = "\
      memory disk full\n\
      unsealed too-long torn-line read memory\n\
-     not-a-line memory\n\
-     not-a-line no-event-before memory\n\
-     read memory\n";
+     not-a-line no-event-before read memory\n";
 
 #[test]
 fn each_fault_of_a_journal_is_shown_by_its_word(rt: HostRuntime) -> Result<(), AllocError> {

@@ -1,6 +1,6 @@
 //! Lines of a journal, read and written again.
 
-use journal::{UnreadLine, read_line, text};
+use journal::{Unreadable, read_line, text};
 use std::test::Fail;
 
 // A line of each kind, as another printer of JSON writes it.
@@ -56,7 +56,7 @@ const OTHERS: [&str; 15] = [
 fn a_text_that_is_no_line_is_refused(rt: HostRuntime) -> Result<(), Fail> {
     for other in OTHERS {
         let read = read_line(rt.alloc(), other.as_bytes());
-        assert!(rt; matches!(read, Err(UnreadLine::NotALine)));
+        assert!(rt; matches!(read, Err(Unreadable::NotALine)));
     }
     Ok(())
 }

@@ -13,7 +13,7 @@ use Rattle.office_desk.specs.declared.replay.Unreplayed.{Unreplayed}
 use Rattle.office_desk.specs.declared.replay.Unreplayed.TheVariants as causes
 use Rattle.office_desk.specs.Meant.{meaning_over}
 use Rattle.office_desk.specs.Replayed.{HasOtherText, IsDeniedBy, IsRefused as IsDenied}
-use Rattle.journal.specs.declared.events.Unreadable.TheVariants as unreadable
+use Rattle.journal.specs.declared.fault.Unreadable.TheVariants as unreadable
 use Rattle.journal.specs.Journal.{IsJournalOf, IsSealedJournal}
 use Rattle.journal.specs.SealsAt.{IsSealAsked}
 use Rattle.journal.specs.Told.{history_told, start}
