@@ -5,17 +5,19 @@ ghost use Rattle.sqlite.specs.Held.{state};
 ghost use Rattle.office_store.specs.Shown.{IsIdle};
 ghost use Rattle.office_policy.specs.Callers.{caller_of};
 ghost use Rattle.office_policy.specs.Facts.{is_text_of};
-ghost use Rattle.office_policy.specs.Formed.{HasForms};
+ghost use Rattle.office_policy.specs.Formed.{HasForms, IsName};
 ghost use Rattle.office_policy.specs.Happened.{event_meant};
 ghost use Rattle.office_policy.specs.History.{did};
+ghost use Rattle.review_policy.specs.declared.ask.Ask.TheVariants.{Enrol};
 ghost use Rattle.office_desk.specs.Meant.{meaning_over};
 ghost use Rattle.office_desk.specs.Replayed.{HasNoAsk, IsAskOf, IsReplayed, added, has_text};
 
 use crate::carry_out::carry_out;
 use office_judging::Refusal;
 use office_judging::judge::judge_named;
-use office_policy::{Change, Deed, Event, Judgement, ask_forms};
-use review_policy::{Ask, Denial, Fault, Text, Word};
+use office_policy::forms::{digest_form, name_form, roles_form, word_form};
+use office_policy::{Change, Deed, Event, Judgement};
+use review_policy::{Ask, Denial, Fault, ProfileName, Roles, Text, Word};
 use sqlite::{Alter, Connection};
 use std::alloc::{AllocError, Global};
 use thiserror::Error;
@@ -75,10 +77,37 @@ impl From<AllocError> for Unreplayed {
     }
 }
 
+// A profile's name, which has its form.
+fn named(name: &ProfileName) -> Result<ProfileName, AllocError>
+    ensures same { IfOk result (λ copy. copy ≡ name.now) }
+    ensures form { IfOk result (λ copy. IsName copy) }
+{
+    name_form(name);
+    name.clone()
+}
+
+// An enrolment, as it is asked.
+fn enrolment(user: &Word, team: &Word, roles: Roles, digest: &[u8; 32]) -> Result<Ask, AllocError>
+    ensures ask { IfOk result (λ ask. ask ≡ Enrol user.now team.now roles digest.now) }
+    ensures forms { IfOk result (λ ask. HasForms ask) }
+{
+    word_form(user);
+    word_form(team);
+    roles_form(roles);
+    digest_form(digest);
+    Ok(Ask::Enrol {
+        user: user.clone()?,
+        team: team.clone()?,
+        roles,
+        digest: *digest,
+    })
+}
+
 // What a user did, as it is asked; of a submission the document is the text itself.
 fn ask_to(alloc: Global, deed: &Deed) -> Result<Ask, Unreplayed>
     ensures ask { (caller : List ℕ) → IfOk result (IsAskOf (did caller deed.now)) }
     ensures none { (caller : List ℕ) → IfErr result (HasNoAsk (did caller deed.now)) }
+    ensures forms { IfOk result (λ ask. HasForms ask) }
 {
     match deed {
         Deed::Enrol {
@@ -86,14 +115,9 @@ fn ask_to(alloc: Global, deed: &Deed) -> Result<Ask, Unreplayed>
             team,
             roles,
             digest,
-        } => Ok(Ask::Enrol {
-            user: user.clone()?,
-            team: team.clone()?,
-            roles: *roles,
-            digest: *digest,
-        }),
+        } => Ok(enrolment(user, team, *roles, digest)?),
         Deed::Submit { name, text } => Ok(Ask::Submit {
-            name: name.clone()?,
+            name: named(name)?,
             document: Vec::from_slice(alloc, text.as_str().as_bytes())?,
         }),
         Deed::Vote {
@@ -101,24 +125,27 @@ fn ask_to(alloc: Global, deed: &Deed) -> Result<Ask, Unreplayed>
             revision,
             digest,
             approves,
-        } => Ok(Ask::Vote {
-            name: name.clone()?,
-            revision: *revision,
-            digest: *digest,
-            approve: *approves,
-        }),
+        } => {
+            digest_form(digest);
+            Ok(Ask::Vote {
+                name: named(name)?,
+                revision: *revision,
+                digest: *digest,
+                approve: *approves,
+            })
+        }
         Deed::ActOnRevision {
             act,
             name,
             revision,
         } => Ok(Ask::ActOnRevision {
             act: *act,
-            name: name.clone()?,
+            name: named(name)?,
             revision: *revision,
         }),
         Deed::ActOnProfile { act, name } => Ok(Ask::ActOnProfile {
             act: *act,
-            name: name.clone()?,
+            name: named(name)?,
         }),
     }
 }
@@ -127,6 +154,7 @@ fn ask_to(alloc: Global, deed: &Deed) -> Result<Ask, Unreplayed>
 fn ask_of(alloc: Global, event: &Event) -> Result<Ask, Unreplayed>
     ensures ask { IfOk result (IsAskOf (event_meant event.now)) }
     ensures none { IfErr result (HasNoAsk (event_meant event.now)) }
+    ensures forms { IfOk result (λ ask. HasForms ask) }
 {
     match event {
         Event::Founded { .. } => Err(Unreplayed::Founding),
@@ -206,6 +234,5 @@ pub(crate) fn replay<S: Alter>(
         return Err(Unreplayed::Founding);
     };
     let ask = ask_of(alloc, event)?;
-    ask_forms(&ask);
     replay_ask(alloc, conn, event, name, &ask)
 }
