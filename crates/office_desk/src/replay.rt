@@ -8,7 +8,7 @@ ghost use Rattle.office_policy.specs.Facts.{is_text_of};
 ghost use Rattle.office_policy.specs.Formed.{HasForms, IsName};
 ghost use Rattle.office_policy.specs.Happened.{event_meant};
 ghost use Rattle.office_policy.specs.History.{did};
-ghost use Rattle.review_policy.specs.declared.ask.Ask.TheVariants.{Enrol};
+ghost use Rattle.review_policy.specs.declared.ask.Ask.TheVariants.{Enrol, Vote};
 ghost use Rattle.office_desk.specs.Meant.{meaning_over};
 ghost use Rattle.office_desk.specs.Replayed.{HasNoAsk, IsAskOf, IsReplayed, added, has_text};
 
@@ -103,6 +103,25 @@ fn enrolment(user: &Word, team: &Word, roles: Roles, digest: &[u8; 32]) -> Resul
     })
 }
 
+// A vote, as it is asked.
+fn vote(
+    name: &ProfileName,
+    revision: u32,
+    digest: &[u8; 32],
+    approves: bool,
+) -> Result<Ask, AllocError>
+    ensures ask { IfOk result (λ ask. ask ≡ Vote name.now revision digest.now approves) }
+    ensures forms { IfOk result (λ ask. HasForms ask) }
+{
+    digest_form(digest);
+    Ok(Ask::Vote {
+        name: named(name)?,
+        revision,
+        digest: *digest,
+        approve: approves,
+    })
+}
+
 // What a user did, as it is asked; of a submission the document is the text itself.
 fn ask_to(alloc: Global, deed: &Deed) -> Result<Ask, Unreplayed>
     ensures ask { (caller : List ℕ) → IfOk result (IsAskOf (did caller deed.now)) }
@@ -125,15 +144,7 @@ fn ask_to(alloc: Global, deed: &Deed) -> Result<Ask, Unreplayed>
             revision,
             digest,
             approves,
-        } => {
-            digest_form(digest);
-            Ok(Ask::Vote {
-                name: named(name)?,
-                revision: *revision,
-                digest: *digest,
-                approve: *approves,
-            })
-        }
+        } => Ok(vote(name, *revision, digest, *approves)?),
         Deed::ActOnRevision {
             act,
             name,
