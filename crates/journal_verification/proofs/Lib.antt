@@ -11,5 +11,6 @@ mod Offices
 mod Queries
 mod Readings
 mod Rising
+mod SideBySide
 mod Telling
 mod Verifying

@@ -21,7 +21,7 @@ use Rattle.office_store.specs.Schema.{office_schema}
 use Rattle.office_store.specs.Shown.{IsIdle}
 use Rattle.office_store.proofs.Calls.{never_both}
 use Rattle.journal_verification.specs.Looked.{HasLooked}
-use Rattle.journal_verification.specs.Reading.{GivesNext, GivesRest, IsAt, IsGiving}
+use Rattle.journal_verification.specs.Reading.{GivesNext, IsAt, IsGiving}
 use Rattle.journal_verification.proofs.Faults.{rowids_failed, rows_failed}
 use Rattle.journal_verification.proofs.Looks.{has_looked}
 

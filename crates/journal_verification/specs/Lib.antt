@@ -10,5 +10,6 @@ pub mod Refused
 pub mod Rising
 pub mod Same
 pub mod Schemas
+pub mod SideBySide
 pub mod Texts
 pub mod Verified

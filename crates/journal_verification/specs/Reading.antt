@@ -1,10 +1,11 @@
 -- The rows of an answer, read one at a time.
 use Rattle.std.specs.Prelude.{◌≡◌, ◌⊎◌, ℕ, List, [], ◌∷◌, ◌++◌, length, take, slice_get}
-use Rattle.std.specs.Prelude.{Option, None, Some}
+use Rattle.std.specs.Prelude.{Option, None, Some, IsTrue}
 use Rattle.sqlite.specs.Effect.{Database}
 use Rattle.sqlite.specs.Given.{HasGiven}
 use Rattle.sqlite.specs.Held.{Held, state}
 use Rattle.sqlite.specs.Order.{Row}
+use Rattle.sqlite.specs.State.{IsUnchanged}
 use Rattle.sqlite.specs.Store.{Ghosts}
 use Rattle.journal_verification.specs.declared.difference.Difference.{Difference}
 use Rattle.journal_verification.specs.declared.table.Table.{Table}
@@ -53,6 +54,16 @@ module _ {S : Type 0} (g : Ghosts S) where
   GivesBehind old next db =
       (sql : List ℕ) (before : List Row) → HasNext sql old before next
       → HasBehind sql db before next
+
+  -- the connection is open and as it was, and has given this row, or that it was at the end
+  abbrev pub ReadsNext : Held S → Held S → Option Row → Type 0
+  ReadsNext old new next = IsUnchanged (state g old) (state g new) × GivesNext old new next
+
+  -- an open connection is as it was, and all behind this row was read
+  abbrev pub ReadsRest : Held S → Held S → Option Row → Type 0
+  ReadsRest old new next =
+      (IsTrue (state g old).is_open → IsUnchanged (state g old) (state g new))
+      × GivesBehind old next (state g new).now
 
 module _ {S T : Type 0} (g : Ghosts S) (f : Ghosts T) where
   -- behind the same rows of a table both have given the same row, or have no more; or they have other

@@ -13,6 +13,7 @@ ghost use Rattle.journal_verification.specs.Reading.{IsAt, IsGiving};
 ghost use Rattle.journal_verification.specs.Same.{FaultsRowids, TellsRowids};
 ghost use Rattle.journal_verification.specs.Same.{TellsRows, TellsTables};
 ghost use Rattle.journal_verification.specs.Same.{TellsTable};
+ghost use Rattle.journal_verification.specs.SideBySide.{AreIdle, ComparesBoth};
 ghost use Rattle.journal_verification.specs.Texts.{rowids_text, rows_text};
 
 use crate::difference::Difference;
@@ -82,25 +83,12 @@ fn office_differs<S: Alter, T: Alter>(
     office: &mut Connection<T>,
     table: Table,
 ) -> Result<Option<Difference>, Fault>
-    requires built { IsIdle (state S.Store built.old.conn.now) }
-    requires office { IsIdle (state T.Store office.old) }
+    requires { AreIdle S.Store T.Store built.old.conn.now office.old }
     ensures same_reference { built.new.conn.ghost_name ≡ built.old.conn.ghost_name }
-    ensures built { HasLooked (state S.Store built.old.conn.now)
-        (state S.Store built.new.conn.now) }
-    ensures office { HasLooked (state T.Store office.old) (state T.Store office.new) }
-    ensures told { HasCleanDisk (state S.Store built.new.conn.now)
-        → HasCleanDisk (state T.Store office.new)
-        → IsAt S.Store (rows_text table) built.old.conn.now [] → IfOk result
-        (TellsRows S.Store T.Store table (state S.Store built.old.conn.now).now
-        (state T.Store office.old).now) }
-    ensures unchanged { HasCleanDisk (state S.Store built.new.conn.now)
-        → IsTrue (state S.Store built.old.conn.now).is_open → OnOk result
-        (IsUnchanged (state S.Store built.old.conn.now) (state S.Store built.new.conn.now)) }
-    ensures same { HasCleanDisk (state T.Store office.new) → OnOk result
-        (IsUnchanged (state T.Store office.old) (state T.Store office.new)) }
-    ensures cause { HasCleanDisk (state T.Store office.new)
-        → (state T.Store office.old).now.schema ≡ office_schema → IfErr result
-        (HasFailed (state T.Store office.old) (state T.Store office.new)) }
+    ensures looks { ComparesBoth S.Store T.Store built.old.conn.now built.new.conn.now
+        office.old office.new result (λ first second difference.
+        IsAt S.Store (rows_text table) built.old.conn.now []
+        → TellsRows S.Store T.Store table first second difference) }
 {
     match office.query(table.rows(), &[]) {
         Ok(mut rows) => readings_differ(alloc, built, &mut rows, table),
@@ -116,20 +104,9 @@ fn rows_differ<S: Alter, T: Alter>(
     office: &mut Connection<T>,
     table: Table,
 ) -> Result<Option<Difference>, Fault>
-    requires built { IsIdle (state S.Store built.old) }
-    requires office { IsIdle (state T.Store office.old) }
-    ensures built { HasLooked (state S.Store built.old) (state S.Store built.new) }
-    ensures office { HasLooked (state T.Store office.old) (state T.Store office.new) }
-    ensures told { HasCleanDisk (state S.Store built.new) → HasCleanDisk (state T.Store office.new)
-        → IfOk result (TellsRows S.Store T.Store
-        table (state S.Store built.old).now (state T.Store office.old).now) }
-    ensures unchanged { HasCleanDisk (state S.Store built.new) → OnOk result
-        (IsUnchanged (state S.Store built.old) (state S.Store built.new)) }
-    ensures same { HasCleanDisk (state T.Store office.new) → OnOk result
-        (IsUnchanged (state T.Store office.old) (state T.Store office.new)) }
-    ensures cause { HasCleanDisk (state T.Store office.new)
-        → (state T.Store office.old).now.schema ≡ office_schema → IfErr result
-        (HasFailed (state T.Store office.old) (state T.Store office.new)) }
+    requires { AreIdle S.Store T.Store built.old office.old }
+    ensures { ComparesBoth S.Store T.Store built.old built.new office.old office.new
+        result (TellsRows S.Store T.Store table) }
 {
     match built.query(table.rows(), &[]) {
         Ok(mut rows) => office_differs(alloc, &mut rows, office, table),
@@ -166,20 +143,9 @@ fn table_differs<S: Alter, T: Alter>(
     office: &mut Connection<T>,
     table: Table,
 ) -> Result<Option<Difference>, Fault>
-    requires built { IsIdle (state S.Store built.old) }
-    requires office { IsIdle (state T.Store office.old) }
-    ensures built { HasLooked (state S.Store built.old) (state S.Store built.new) }
-    ensures office { HasLooked (state T.Store office.old) (state T.Store office.new) }
-    ensures told { HasCleanDisk (state S.Store built.new) → HasCleanDisk (state T.Store office.new)
-        → IfOk result (TellsTable S.Store T.Store
-        table (state S.Store built.old).now (state T.Store office.old).now) }
-    ensures unchanged { HasCleanDisk (state S.Store built.new) → OnOk result
-        (IsUnchanged (state S.Store built.old) (state S.Store built.new)) }
-    ensures same { HasCleanDisk (state T.Store office.new) → OnOk result
-        (IsUnchanged (state T.Store office.old) (state T.Store office.new)) }
-    ensures cause { HasCleanDisk (state T.Store office.new)
-        → (state T.Store office.old).now.schema ≡ office_schema → IfErr result
-        (HasFailed (state T.Store office.old) (state T.Store office.new)) }
+    requires { AreIdle S.Store T.Store built.old office.old }
+    ensures { ComparesBoth S.Store T.Store built.old built.new office.old office.new
+        result (TellsTable S.Store T.Store table) }
 {
     let difference = rows_differ(alloc, built, office, table)?;
     match difference {
@@ -194,20 +160,9 @@ fn tables_differ<S: Alter, T: Alter>(
     built: &mut Connection<S>,
     office: &mut Connection<T>,
 ) -> Result<Option<Difference>, Fault>
-    requires built { IsIdle (state S.Store built.old) }
-    requires office { IsIdle (state T.Store office.old) }
-    ensures built { HasLooked (state S.Store built.old) (state S.Store built.new) }
-    ensures office { HasLooked (state T.Store office.old) (state T.Store office.new) }
-    ensures told { HasCleanDisk (state S.Store built.new) → HasCleanDisk (state T.Store office.new)
-        → IfOk result (TellsTables S.Store T.Store
-        (state S.Store built.old).now (state T.Store office.old).now) }
-    ensures unchanged { HasCleanDisk (state S.Store built.new) → OnOk result
-        (IsUnchanged (state S.Store built.old) (state S.Store built.new)) }
-    ensures same { HasCleanDisk (state T.Store office.new) → OnOk result
-        (IsUnchanged (state T.Store office.old) (state T.Store office.new)) }
-    ensures cause { HasCleanDisk (state T.Store office.new)
-        → (state T.Store office.old).now.schema ≡ office_schema → IfErr result
-        (HasFailed (state T.Store office.old) (state T.Store office.new)) }
+    requires { AreIdle S.Store T.Store built.old office.old }
+    ensures { ComparesBoth S.Store T.Store built.old built.new office.old office.new
+        result (TellsTables S.Store T.Store) }
 {
     if let Some(row) = table_differs(alloc, built, office, Table::Office)? {
         return Ok(Some(row));

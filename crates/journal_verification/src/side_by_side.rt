@@ -1,20 +1,17 @@
 //! The rows of a table of two offices, read side by side: no more than one of each is held.
 
-ghost use Rattle.std.specs.Prelude.{◌≡◌, [], List, IsTrue, IfErr, IfOk, OnOk};
+ghost use Rattle.std.specs.Prelude.{◌≡◌, [], List, IsTrue, IfErr, IfOk};
 ghost use Rattle.std.specs.Prelude.{MatchOption, option_copied};
 ghost use Rattle.sqlite.specs.Given.{row_if};
 ghost use Rattle.sqlite.specs.Held.{state};
 ghost use Rattle.sqlite.specs.Order.{Row as Values};
 ghost use Rattle.sqlite.specs.State.{HasCleanDisk, IsUnchanged};
-ghost use Rattle.office_rows.specs.Causes.{HasFailed};
-ghost use Rattle.office_store.specs.Schema.{office_schema};
-ghost use Rattle.office_store.specs.Shown.{IsIdle};
 ghost use Rattle.journal_verification.specs.Differing.{IsEarlier};
-ghost use Rattle.journal_verification.specs.Looked.{HasLooked};
 ghost use Rattle.journal_verification.specs.Named.{IsNamed};
-ghost use Rattle.journal_verification.specs.Reading.{GivesBehind, GivesNext, IsAt, IsGiving};
+ghost use Rattle.journal_verification.specs.Reading.{IsAt, IsGiving, ReadsNext, ReadsRest};
 ghost use Rattle.journal_verification.specs.Reading.{TellsNext};
 ghost use Rattle.journal_verification.specs.Same.{TellsRows};
+ghost use Rattle.journal_verification.specs.SideBySide.{AreIdle, ReadsBoth};
 ghost use Rattle.journal_verification.specs.Texts.{key_width, rows_text};
 ghost use Rattle.no_memory.specs.Witness.{witness};
 
@@ -54,28 +51,13 @@ fn read_both<S: Alter, T: Alter>(
     built: &mut Rows<'_, S>,
     office: &mut Rows<'_, T>,
 ) -> Result<(), Fault>
-    requires built { IsIdle (state S.Store built.old.conn.now) }
-    requires office { IsIdle (state T.Store office.old.conn.now) }
-    ensures built_reference { built.new.conn.ghost_name ≡ built.old.conn.ghost_name }
-    ensures office_reference { office.new.conn.ghost_name ≡ office.old.conn.ghost_name }
-    ensures built { HasLooked (state S.Store built.old.conn.now)
-        (state S.Store built.new.conn.now) }
-    ensures office { HasLooked (state T.Store office.old.conn.now)
-        (state T.Store office.new.conn.now) }
-    ensures built_next { HasCleanDisk (state S.Store built.new.conn.now) → OnOk result
-        (GivesNext S.Store built.old.conn.now built.new.conn.now
-        (row_if built.new.has_row built.new.conn.now)) }
-    ensures office_next { HasCleanDisk (state T.Store office.new.conn.now) → OnOk result
-        (GivesNext T.Store office.old.conn.now office.new.conn.now
+    requires { AreIdle S.Store T.Store built.old.conn.now office.old.conn.now }
+    ensures { ReadsBoth S.Store T.Store built.old.conn built.new.conn office.old.conn
+        office.new.conn result (IsGiving T.Store office.old.conn.now)
+        (λ _. ReadsNext S.Store built.old.conn.now built.new.conn.now
+        (row_if built.new.has_row built.new.conn.now))
+        (λ _. ReadsNext T.Store office.old.conn.now office.new.conn.now
         (row_if office.new.has_row office.new.conn.now)) }
-    ensures unchanged { HasCleanDisk (state S.Store built.new.conn.now) → OnOk result
-        (IsUnchanged (state S.Store built.old.conn.now) (state S.Store built.new.conn.now)) }
-    ensures same { HasCleanDisk (state T.Store office.new.conn.now) → OnOk result
-        (IsUnchanged (state T.Store office.old.conn.now) (state T.Store office.new.conn.now)) }
-    ensures cause { HasCleanDisk (state T.Store office.new.conn.now)
-        → (state T.Store office.old.conn.now).now.schema ≡ office_schema
-        → IsGiving T.Store office.old.conn.now → IfErr result
-        (HasFailed (state T.Store office.old.conn.now) (state T.Store office.new.conn.now)) }
 {
     match read_on(built) {
         Ok(()) => read_on(office),
@@ -88,31 +70,14 @@ fn read_rests<S: Alter, T: Alter>(
     built: &mut Rows<'_, S>,
     office: &mut Rows<'_, T>,
 ) -> Result<(), Fault>
-    requires built { IsIdle (state S.Store built.old.conn.now) }
-    requires office { IsIdle (state T.Store office.old.conn.now) }
-    ensures built_reference { built.new.conn.ghost_name ≡ built.old.conn.ghost_name }
-    ensures office_reference { office.new.conn.ghost_name ≡ office.old.conn.ghost_name }
-    ensures built { HasLooked (state S.Store built.old.conn.now)
-        (state S.Store built.new.conn.now) }
-    ensures office { HasLooked (state T.Store office.old.conn.now)
-        (state T.Store office.new.conn.now) }
-    ensures built_rest { HasCleanDisk (state S.Store built.new.conn.now) → OnOk result
-        (GivesBehind S.Store built.old.conn.now
-        (row_if built.old.has_row built.old.conn.now) (state S.Store built.new.conn.now).now) }
-    ensures office_rest { HasCleanDisk (state T.Store office.new.conn.now) → OnOk result
-        (GivesBehind T.Store office.old.conn.now
-        (row_if office.old.has_row office.old.conn.now)
-        (state T.Store office.new.conn.now).now) }
-    ensures unchanged { HasCleanDisk (state S.Store built.new.conn.now)
-        → IsTrue (state S.Store built.old.conn.now).is_open → OnOk result
-        (IsUnchanged (state S.Store built.old.conn.now) (state S.Store built.new.conn.now)) }
-    ensures same { HasCleanDisk (state T.Store office.new.conn.now)
-        → IsTrue (state T.Store office.old.conn.now).is_open → OnOk result
-        (IsUnchanged (state T.Store office.old.conn.now) (state T.Store office.new.conn.now)) }
-    ensures cause { HasCleanDisk (state T.Store office.new.conn.now)
-        → (state T.Store office.old.conn.now).now.schema ≡ office_schema
-        → (IsTrue office.old.has_row → IsGiving T.Store office.old.conn.now) → IfErr result
-        (HasFailed (state T.Store office.old.conn.now) (state T.Store office.new.conn.now)) }
+    requires { AreIdle S.Store T.Store built.old.conn.now office.old.conn.now }
+    ensures { ReadsBoth S.Store T.Store built.old.conn built.new.conn office.old.conn
+        office.new.conn result
+        (IsTrue office.old.has_row → IsGiving T.Store office.old.conn.now)
+        (λ _. ReadsRest S.Store built.old.conn.now built.new.conn.now
+        (row_if built.old.has_row built.old.conn.now))
+        (λ _. ReadsRest T.Store office.old.conn.now office.new.conn.now
+        (row_if office.old.has_row office.old.conn.now)) }
 {
     match read_rest(built) {
         Ok(()) => read_rest(office),
@@ -127,31 +92,19 @@ fn next_differs<S: Alter, T: Alter>(
     office: &mut Rows<'_, T>,
     table: Table,
 ) -> Result<Option<Difference>, Fault>
-    requires built { IsIdle (state S.Store built.old.conn.now) }
-    requires office { IsIdle (state T.Store office.old.conn.now) }
-    ensures built_reference { built.new.conn.ghost_name ≡ built.old.conn.ghost_name }
-    ensures office_reference { office.new.conn.ghost_name ≡ office.old.conn.ghost_name }
-    ensures built { HasLooked (state S.Store built.old.conn.now)
-        (state S.Store built.new.conn.now) }
-    ensures office { HasLooked (state T.Store office.old.conn.now)
-        (state T.Store office.new.conn.now) }
-    ensures told { HasCleanDisk (state S.Store built.new.conn.now)
-        → HasCleanDisk (state T.Store office.new.conn.now) → (before : List Values)
+    requires { AreIdle S.Store T.Store built.old.conn.now office.old.conn.now }
+    ensures { ReadsBoth S.Store T.Store built.old.conn built.new.conn office.old.conn
+        office.new.conn result (IsGiving T.Store office.old.conn.now)
+        (λ _. IsUnchanged (state S.Store built.old.conn.now) (state S.Store built.new.conn.now))
+        (λ difference. IsUnchanged (state T.Store office.old.conn.now)
+        (state T.Store office.new.conn.now)
+        × (IsGiving T.Store office.old.conn.now → MatchOption difference
+        (IsTrue office.new.has_row → IsGiving T.Store office.new.conn.now) (λ _. Unit {0}))
+        × (HasCleanDisk (state S.Store built.new.conn.now) → (before : List Values)
         → IsAt S.Store (rows_text table) built.old.conn.now before
         → IsAt T.Store (rows_text table) office.old.conn.now before
-        → IfOk result (TellsNext S.Store T.Store table built.new.conn.now office.new.conn.now
-        before (row_if office.new.has_row office.new.conn.now)) }
-    ensures gives { HasCleanDisk (state T.Store office.new.conn.now)
-        → IsGiving T.Store office.old.conn.now → IfOk result (λ difference. MatchOption difference
-        (IsTrue office.new.has_row → IsGiving T.Store office.new.conn.now) (λ _. Unit {0})) }
-    ensures unchanged { HasCleanDisk (state S.Store built.new.conn.now) → OnOk result
-        (IsUnchanged (state S.Store built.old.conn.now) (state S.Store built.new.conn.now)) }
-    ensures same { HasCleanDisk (state T.Store office.new.conn.now) → OnOk result
-        (IsUnchanged (state T.Store office.old.conn.now) (state T.Store office.new.conn.now)) }
-    ensures cause { HasCleanDisk (state T.Store office.new.conn.now)
-        → (state T.Store office.old.conn.now).now.schema ≡ office_schema
-        → IsGiving T.Store office.old.conn.now → IfErr result
-        (HasFailed (state T.Store office.old.conn.now) (state T.Store office.new.conn.now)) }
+        → TellsNext S.Store T.Store table built.new.conn.now office.new.conn.now
+        before (row_if office.new.has_row office.new.conn.now) difference)) }
 {
     read_both(built, office)?;
     match row_differs(alloc, table, built.get(), office.get())? {
@@ -171,30 +124,17 @@ pub(crate) fn readings_differ<S: Alter, T: Alter>(
     office: &mut Rows<'_, T>,
     table: Table,
 ) -> Result<Option<Difference>, Fault>
-    requires built { IsIdle (state S.Store built.old.conn.now) }
-    requires office { IsIdle (state T.Store office.old.conn.now) }
-    ensures built_reference { built.new.conn.ghost_name ≡ built.old.conn.ghost_name }
-    ensures office_reference { office.new.conn.ghost_name ≡ office.old.conn.ghost_name }
-    ensures built { HasLooked (state S.Store built.old.conn.now)
-        (state S.Store built.new.conn.now) }
-    ensures office { HasLooked (state T.Store office.old.conn.now)
-        (state T.Store office.new.conn.now) }
-    ensures told { HasCleanDisk (state S.Store built.new.conn.now)
-        → HasCleanDisk (state T.Store office.new.conn.now)
+    requires { AreIdle S.Store T.Store built.old.conn.now office.old.conn.now }
+    ensures { ReadsBoth S.Store T.Store built.old.conn built.new.conn office.old.conn
+        office.new.conn result (IsGiving T.Store office.old.conn.now)
+        (λ _. IsUnchanged (state S.Store built.old.conn.now) (state S.Store built.new.conn.now))
+        (λ difference. IsUnchanged (state T.Store office.old.conn.now)
+        (state T.Store office.new.conn.now)
+        × (HasCleanDisk (state S.Store built.new.conn.now)
         → IsAt S.Store (rows_text table) built.old.conn.now []
         → IsAt T.Store (rows_text table) office.old.conn.now []
-        → IfOk result (TellsRows S.Store T.Store table (state S.Store built.old.conn.now).now
-        (state T.Store office.old.conn.now).now) }
-    ensures unchanged { HasCleanDisk (state S.Store built.new.conn.now)
-        → IsTrue (state S.Store built.old.conn.now).is_open → OnOk result
-        (IsUnchanged (state S.Store built.old.conn.now) (state S.Store built.new.conn.now)) }
-    ensures same { HasCleanDisk (state T.Store office.new.conn.now)
-        → IsTrue (state T.Store office.old.conn.now).is_open → OnOk result
-        (IsUnchanged (state T.Store office.old.conn.now) (state T.Store office.new.conn.now)) }
-    ensures cause { HasCleanDisk (state T.Store office.new.conn.now)
-        → (state T.Store office.old.conn.now).now.schema ≡ office_schema
-        → IsGiving T.Store office.old.conn.now → IfErr result
-        (HasFailed (state T.Store office.old.conn.now) (state T.Store office.new.conn.now)) }
+        → TellsRows S.Store T.Store table (state S.Store built.old.conn.now).now
+        (state T.Store office.old.conn.now).now difference)) }
 {
     'reading: for _ in 0..u64::MAX {
         if let Some(difference) = next_differs(alloc, built, office, table)? {

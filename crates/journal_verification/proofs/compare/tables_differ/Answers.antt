@@ -1,72 +1,51 @@
-use Rattle.std.proofs.Common.{Some, get_or, subst}
+use Rattle.std.proofs.Common.{◌+◌, Some, None, get_or, subst}
 use Rattle.std.specs.List.{AllByRecursion}
 use Rattle.std.proofs.lemmas.List.{take_all}
 use Rattle.sqlite.specs.Held.{state}
-use Rattle.sqlite.proofs.Callers.{unchanged_then}
-use Rattle.journal_verification.specs.Same.{HaveSame, TellsTable}
+use Rattle.journal_verification.specs.Same.{HaveSame, TellsTable, TellsTables}
 use Rattle.journal_verification.specs.declared.table.Table.TheVariants.{Office}
 use Rattle.journal_verification.specs.declared.table.TheConstants.{FURTHER}
-use Rattle.journal_verification.proofs.Looks.{all_six, first_further, first_of_all, looked_on, one_more, told_since}
+use Rattle.journal_verification.proofs.Looks.{all_six, first_further, first_of_all, one_more}
+use Rattle.journal_verification.proofs.SideBySide.{HaveSameUpTo, compares_as, compares_on, fails, then_fails}
 use Rattle.journal_verification.proofs.compare.tables_differ.Goals as goal
 
-pub returns-in_err-row-2-clause-built : goal.returns-in_err-row-2-clause-built
-returns-in_err-row-2-clause-built g c = looked_on _ (state g.S.Store c.loop-table.built) _ c.loop-table.invariant.built c.table_differs-in-loop-table.ensures.built
+pub returns-in_err-row : goal.returns-in_err-row
+returns-in_err-row g c = let more = c.in_err-row.ensures in fails g.S.Store g.T.Store _ _ _ _ _ c.in_err-row.field-0.0 c.from_residual.ensures.1 more.built more.office more.cause
 
-pub returns-in_err-row-2-clause-office : goal.returns-in_err-row-2-clause-office
-returns-in_err-row-2-clause-office g c = looked_on _ (state g.T.Store c.loop-table.office) _ c.loop-table.invariant.office c.table_differs-in-loop-table.ensures.office
+pub returns-in-Some : goal.returns-in-Some
+returns-in-Some g c =
+    compares_as g.S.Store g.T.Store (TellsTable g.S.Store g.T.Store Office) (TellsTables g.S.Store g.T.Store) _ _ _ _ _ (Some c.in-Some.row) c.in_ok-row.ensures
+    (λ told. first_of_all g.S.Store g.T.Store (state g.S.Store c.args.built.now).now (state g.T.Store c.args.office.now).now c.in-Some.row (rw c.in-Some.is at told))
 
-pub returns-in-Some-2-clause-built : goal.returns-in-Some-2-clause-built
-returns-in-Some-2-clause-built g c = looked_on _ (state g.S.Store c.loop-table.built) _ c.loop-table.invariant.built c.table_differs-in-loop-table.ensures.built
-
-pub returns-in-Some-2-clause-office : goal.returns-in-Some-2-clause-office
-returns-in-Some-2-clause-office g c = looked_on _ (state g.T.Store c.loop-table.office) _ c.loop-table.invariant.office c.table_differs-in-loop-table.ensures.office
+pub loop-table-init : goal.loop-table-init
+loop-table-init g c =
+    compares_as g.S.Store g.T.Store (TellsTable g.S.Store g.T.Store Office) (HaveSameUpTo g.S.Store g.T.Store 0) _ _ _ _ _ tt c.in_ok-row.ensures (λ told. (rw c.in_default.is at told, tt))
 
 pub loop-table-preserved : goal.loop-table-preserved
 loop-table-preserved g c =
-    let built = c.loop-table.invariant.built in
-    let office = c.loop-table.invariant.office in
-    let told = c.in_ok-row-2.ensures.told in
-    let more = c.table_differs-in-loop-table.ensures in
-    record {
-      built = looked_on _ (state g.S.Store c.loop-table.built) _ built more.built;
-      office = looked_on _ (state g.T.Store c.loop-table.office) _ office more.office;
-      unchanged = λ clean. unchanged_then _ (state g.S.Store c.loop-table.built) _ (c.loop-table.invariant.unchanged (more.built.clean clean)) (c.in_ok-row-2.ensures.unchanged clean);
-      same = λ clean. unchanged_then _ (state g.T.Store c.loop-table.office) _ (c.loop-table.invariant.same (more.office.clean clean)) (c.in_ok-row-2.ensures.same clean);
-      first = λ first second. c.loop-table.invariant.first (more.built.clean first) (more.office.clean second);
-      further = λ first second.
-          let mid = more.built.clean first in
-          let middle = more.office.clean second in
-          let a = state g.S.Store c.args.built.now in
-          let b = state g.T.Store c.args.office.now in
-          let new = rw c.in_default-2.is at (told first second) in
-          one_more g.S.Store g.T.Store FURTHER c.loop-table.table-index Office (λ t. HaveSame g.S.Store g.T.Store t a.now b.now) c.loop-table-test.true (c.loop-table.invariant.further mid middle)
-          (told_since g.S.Store g.T.Store (state g.S.Store c.loop-table.built).now (state g.T.Store c.loop-table.office).now a.now b.now (c.loop-table.invariant.unchanged mid).0.now_is (c.loop-table.invariant.same middle).0.now_is
-          (HaveSame g.S.Store g.T.Store (get_or FURTHER c.loop-table.table-index Office)) new);
-    }
+    let i = c.loop-table.table-index in
+    let a = (state g.S.Store c.args.built.now).now in
+    let b = (state g.T.Store c.args.office.now).now in
+    compares_on g.S.Store g.T.Store (HaveSameUpTo g.S.Store g.T.Store i) (HaveSameUpTo g.S.Store g.T.Store (i + 1)) (TellsTable g.S.Store g.T.Store (get_or FURTHER i Office)) _ c.loop-table.built _ _ c.loop-table.office _ tt _ tt c.loop-table.invariant c.in_ok-row-2.ensures
+    (λ same told. (same.0, one_more g.S.Store g.T.Store FURTHER i Office (λ t. HaveSame g.S.Store g.T.Store t a b) c.loop-table-test.true same.1 (rw c.in_default-2.is at told)))
 
-pub returns-clause-told : goal.returns-clause-told
-returns-clause-told g c = λ built office.
-    let first = state g.S.Store c.args.built.now in
-    let second = state g.T.Store c.args.office.now in
-    all_six g.S.Store g.T.Store first.now second.now (c.loop-table.invariant.first built office)
-    (subst (AllByRecursion (λ t. HaveSame g.S.Store g.T.Store t first.now second.now)) (take_all c.loop-table.table-index FURTHER c.loop-table-test.false) (c.loop-table.invariant.further built office))
-
-pub returns-in-Some-clause-told : goal.returns-in-Some-clause-told
-returns-in-Some-clause-told g c = λ built office.
-    let first = state g.S.Store c.args.built.now in
-    let second = state g.T.Store c.args.office.now in
-    first_of_all g.S.Store g.T.Store first.now second.now c.in-Some.row (rw c.in-Some.is at (c.in_ok-row.ensures.told built office))
-
-pub returns-in-Some-2-clause-told : goal.returns-in-Some-2-clause-told
-returns-in-Some-2-clause-told g c = λ built office.
+pub returns-in_err-row-2 : goal.returns-in_err-row-2
+returns-in_err-row-2 g c =
     let kept = c.loop-table.invariant in
-    let more = c.table_differs-in-loop-table.ensures in
-    let mid = more.built.clean built in
-    let middle = more.office.clean office in
-    let first = state g.S.Store c.args.built.now in
-    let second = state g.T.Store c.args.office.now in
-    let row = c.in-Some-2.row in
-    let new = rw c.in-Some-2.is at (c.in_ok-row-2.ensures.told built office) in
-    first_further g.S.Store g.T.Store first.now second.now c.loop-table.table-index Office row c.loop-table-test.true (kept.first mid middle) (kept.further mid middle)
-    (told_since g.S.Store g.T.Store (state g.S.Store c.loop-table.built).now (state g.T.Store c.loop-table.office).now first.now second.now (kept.unchanged mid).0.now_is (kept.same middle).0.now_is
-    (λ a b. TellsTable g.S.Store g.T.Store (get_or FURTHER c.loop-table.table-index Office) a b (Some row)) new)
+    then_fails g.S.Store g.T.Store _ c.loop-table.built _ _ c.loop-table.office _ tt kept _ c.in_err-row-2.field-0.0 c.from_residual-in_err-row-2.ensures.1 (λ clean giving. ((kept.of_office clean).0, giving)) c.in_err-row-2.ensures
+
+pub returns-in-Some-2 : goal.returns-in-Some-2
+returns-in-Some-2 g c =
+    let i = c.loop-table.table-index in
+    let a = (state g.S.Store c.args.built.now).now in
+    let b = (state g.T.Store c.args.office.now).now in
+    compares_on g.S.Store g.T.Store (HaveSameUpTo g.S.Store g.T.Store i) (TellsTables g.S.Store g.T.Store) (TellsTable g.S.Store g.T.Store (get_or FURTHER i Office)) _ c.loop-table.built _ _ c.loop-table.office _ tt _ (Some c.in-Some-2.row) c.loop-table.invariant c.in_ok-row-2.ensures
+    (λ same told. first_further g.S.Store g.T.Store a b i Office c.in-Some-2.row c.loop-table-test.true same.0 same.1 (rw c.in-Some-2.is at told))
+
+pub returns : goal.returns
+returns g c =
+    let i = c.loop-table.table-index in
+    let a = (state g.S.Store c.args.built.now).now in
+    let b = (state g.T.Store c.args.office.now).now in
+    compares_as g.S.Store g.T.Store (HaveSameUpTo g.S.Store g.T.Store i) (TellsTables g.S.Store g.T.Store) _ _ _ _ tt None c.loop-table.invariant
+    (λ same. all_six g.S.Store g.T.Store a b same.0 (subst (AllByRecursion (λ t. HaveSame g.S.Store g.T.Store t a b)) (take_all i FURTHER c.loop-table-test.false) same.1))

@@ -1,6 +1,25 @@
+use Rattle.std.proofs.Common.{rules, refl}
 use Rattle.sqlite.specs.Held.{state}
 use Rattle.journal_verification.proofs.Looks.{looked_itself}
+use Rattle.journal_verification.proofs.SideBySide.{fails, if_known, if_ok}
 use Rattle.journal_verification.proofs.side_by_side.read_both.Goals as goal
 
-pub returns-in-Err-clause-office : goal.returns-in-Err-clause-office
-returns-in-Err-clause-office g c = looked_itself (state g.T.Store c.args.office.now.conn.now) c.requires.office
+pub returns-in-Ok : goal.returns-in-Ok
+returns-in-Ok g c = record {
+  built_reference = search rules;
+  office_reference = search rules;
+  looks = record {
+    built = c.read_on.ensures.looked;
+    office = c.read_on-in-Ok.ensures.looked;
+    of_built = λ clean. if_known c.read_on-in-Ok.result (c.in-Ok.ensures.unchanged clean, c.in-Ok.ensures.next clean);
+    of_office = λ clean. if_ok _ _ c.read_on-in-Ok.result (c.read_on-in-Ok.ensures.unchanged clean) (c.read_on-in-Ok.ensures.next clean);
+    cause = c.read_on-in-Ok.ensures.cause;
+  };
+}
+
+pub returns-in-Err : goal.returns-in-Err
+returns-in-Err g c = record {
+  built_reference = search rules;
+  office_reference = search rules;
+  looks = fails g.S.Store g.T.Store _ _ _ _ _ _ refl c.read_on.ensures.looked (looked_itself (state g.T.Store c.args.office.now.conn.now) c.requires.office) (λ clean has giving. tt);
+}
