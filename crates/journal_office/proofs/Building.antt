@@ -1,24 +1,21 @@
 -- An office that is built anew, event by event.
-use Rattle.std.proofs.Common.{◌≡◌, ◌∙◌, inr, ℕ, List, [], ◌∷◌, ◌++◌, Option, Some, None, Result, Ok, Err, Bool, true, false, ◌<◌, length, refl, sym, ap, ap₂, subst, arith, append-nil}
-use Rattle.std.specs.Prelude.{IsErrAnd, ⊤}
+use Rattle.std.proofs.Common.{◌≡◌, ◌∙◌, inl, inr, ℕ, List, [], ◌∷◌, ◌++◌, Option, Some, None, Bool, true, false, ◌<◌, length, refl, sym, ap, ap₂, subst, arith, append-nil}
 use Rattle.office_policy.specs.History.{Event}
 use Rattle.office_policy.specs.Handled.{Stands}
 use Rattle.office_policy.specs.Lawful.{IsFounding, IsLawfulHistory}
 use Rattle.office_policy.specs.Meaning.{Meaning}
 use Rattle.office_desk.specs.Replayed.{HasHappened}
 use Rattle.journal.specs.declared.fault.Unreadable.{Unreadable}
-use Rattle.journal.specs.declared.fault.Unreadable.TheVariants as unreadable
 use Rattle.journal.specs.Told.{GoesOn, Place, held_at, history_told, standing, start}
 use Rattle.journal_office.specs.declared.refused.Refused.{Refused}
 use Rattle.journal_office.specs.declared.refused.Why.{Why}
 use Rattle.journal_office.specs.declared.refused.Why.TheVariants as halt
 use Rattle.journal_office.specs.Rebuilt.{HasReplayed, line_behind}
-use Rattle.journal_office.specs.Steps.{IsKeptOut as IsOut, IsLeft, IsLeftHeld, LeavesAt}
+use Rattle.journal_office.specs.Steps.{IsKeptOut as IsOut, IsLeft, IsLeftHeld, LeavesAt, Stops, StopsBehind}
 use Rattle.journal_office.proofs.Comes.{held_stands, none_stands}
 use Rattle.journal_office.proofs.Refusals.{held_there}
 use Rattle.journal_office.proofs.Replays.{goes_then, more_lawful, more_stands}
-use Rattle.journal_office.specs.Rebuilding.{BuildsOn, ComesThere, IsBuiltTo, IsHalted, ends_at, ends_there, kept_at, kept_by}
-use Rattle.no_memory.specs.Witness.{witness}
+use Rattle.journal_office.specs.Rebuilding.{ComesThere, IsBuiltTo, IsHalted, ends_at, ends_there, kept_at, kept_by}
 
 abbrev no_event : List (ℕ × Event)
 no_event = []
@@ -44,7 +41,7 @@ last_kept true before held is = refl
 last_kept false before held is = absurd cc
 
 -- the event that is held back comes next, where the journal ends
-pub comes_there : (here after : Place) (line : ℕ) (w : Why) (placed : ℕ × Event) → ends_there w ≡ true → IsLeft here after line w → Some placed ≡ held_at after → ComesThere here placed
+comes_there : (here after : Place) (line : ℕ) (w : Why) (placed : ℕ × Event) → ends_there w ≡ true → IsLeft here after line w → Some placed ≡ held_at after → ComesThere here placed
 comes_there here after line (halt.Unread fault) placed ends at is =
     inr (
       record { fault = fault; last = at.leaves.last; on = at.leaves.on; cannot = at.leaves.cannot; held = sym (is ∙ held_there after at.leaves.last at.leaves.taken at.leaves.held) },
@@ -56,7 +53,7 @@ comes_there here after line (halt.Unreplayed cause) placed ends at is = absurd a
 
 module _ {X : Type 0} (m : Meaning X) (bytes : Option (List ℕ)) where
   -- the next event doesn't happen again
-  pub kept_out : (here : Place) (es : List (ℕ × Event)) (office left : X) (placed : ℕ × Event) (line : ℕ) (w : Why) → HasReplayed bytes m here es office → ComesThere here placed
+  kept_out : (here : Place) (es : List (ℕ × Event)) (office left : X) (placed : ℕ × Event) (line : ℕ) (w : Why) → HasReplayed bytes m here es office → ComesThere here placed
       → IsOut m office left placed line w → IsHalted bytes m left line w
   kept_out here es office left placed line (halt.Unread fault) before comes out = absurd out
   kept_out here es office left placed line halt.NotFounded before comes out = absurd out
@@ -87,49 +84,15 @@ module _ {X : Type 0} (m : Meaning X) (bytes : Option (List ℕ)) where
       }
 
   -- with no event more
-  built_alone : (here after : Place) (es : List (ℕ × Event)) (office left : X) (line : ℕ) (fault : Unreadable) → left ≡ office → HasReplayed bytes m here es office → LeavesAt here after line fault
-      → no_event ≡ kept_at fault es after → IsBuiltTo bytes m left line fault
-  built_alone here after es office left line fault same before at is =
-      built_at here after es no_event left line fault before.told at is
-      (λ clean. subst (λ (xs : List (ℕ × Event)). IsLawfulHistory (history_told xs)) (sym (append-nil es)) (before.lawful (subst (λ (x : X). m.is_clean x) same clean)))
-      (λ clean. subst (λ (xs : List (ℕ × Event)). Stands m (history_told xs) left) (sym (append-nil es))
-      (subst (λ (x : X). Stands m (history_told es) x) (sym same) (before.stands (subst (λ (x : X). m.is_clean x) same clean))))
+  built_alone : (here after : Place) (es : List (ℕ × Event)) (office : X) (line : ℕ) (fault : Unreadable) → HasReplayed bytes m here es office → LeavesAt here after line fault
+      → no_event ≡ kept_at fault es after → IsBuiltTo bytes m office line fault
+  built_alone here after es office line fault before at is =
+      built_at here after es no_event office line fault before.told at is
+      (subst (λ (xs : List (ℕ × Event)). m.is_clean office → IsLawfulHistory (history_told xs)) (sym (append-nil es)) before.lawful)
+      (subst (λ (xs : List (ℕ × Event)). m.is_clean office → Stands m (history_told xs) office) (sym (append-nil es)) before.stands)
 
-  -- the input or memory failed
-  pub outside : (here after : Place) (es : List (ℕ × Event)) (office : X) (line : ℕ) (w : Why) → ends_there w ≡ false → HasReplayed bytes m here es office → 0 < length es
-      → IsLeft here after line w → IsHalted bytes m office line w
-  outside here after es office line (halt.Unread unreadable.NotALine) ends before some at = absurd cc
-  outside here after es office line (halt.Unread unreadable.NoEventBefore) ends before some at = absurd cc
-  outside here after es office line (halt.Unread unreadable.Unsealed) ends before some at = absurd cc
-  outside here after es office line (halt.Unread unreadable.TornLine) ends before some at = absurd cc
-  outside here after es office line (halt.Unread unreadable.Read) ends before some at = built_alone here after es office office line unreadable.Read refl before at (none_kept es (standing after.taken after.held) some)
-  outside here after es office line (halt.Unread (unreadable.NoMemory _)) ends before some at = built_alone here after es office office line (unreadable.NoMemory witness) refl before at (none_kept es (standing after.taken after.held) some)
-  outside here after es office line halt.NotFounded ends before some at = absurd at
-  outside here after es office line (halt.Unfounded fault) ends before some at = absurd at
-  outside here after es office line (halt.Unreplayed cause) ends before some at = absurd at
-
-  -- no event is held back
-  pub built_off : (here after : Place) (es : List (ℕ × Event)) (office left : X) (line : ℕ) (w : Why) → left ≡ office → HasReplayed bytes m here es office → IsLeft here after line w
-      → None ≡ held_at after → IsHalted bytes m left line w
-  built_off here after es office left line (halt.Unread fault) same before at none =
-      built_alone here after es office left line fault same before at
-      (none_held (ends_at fault) es ∙ ap (kept_by (ends_at fault) es) (sym (none_stands after.taken after.held none)))
-  built_off here after es office left line halt.NotFounded same before at none = absurd at
-  built_off here after es office left line (halt.Unfounded fault) same before at none = absurd at
-  built_off here after es office left line (halt.Unreplayed cause) same before at none = absurd at
-
-  -- the one that is happens again
-  pub built_behind : (here after : Place) (es : List (ℕ × Event)) (placed : ℕ × Event) (office left : X) (line : ℕ) (w : Why) → ends_there w ≡ true → HasReplayed bytes m here es office
-      → IsLeft here after line w → Some placed ≡ held_at after → HasHappened m office left placed.1 → IsHalted bytes m left line w
-  built_behind here after es placed office left line (halt.Unread fault) ends before at is happened =
-      built_at here after es (placed ∷ []) left line fault before.told at (sym (held_stands after.taken after.held placed is) ∙ last_kept (ends_at fault) es (standing after.taken after.held) ends)
-      (more_lawful m bytes here es placed.0 placed.1 office left before happened) (more_stands m bytes here es placed.0 placed.1 office left before happened)
-  built_behind here after es placed office left line halt.NotFounded ends before at is happened = absurd at
-  built_behind here after es placed office left line (halt.Unfounded fault) ends before at is happened = absurd at
-  built_behind here after es placed office left line (halt.Unreplayed cause) ends before at is happened = absurd at
-
-  -- the founding is
-  pub founded_only : (here : Place) (first : ℕ × Event) (office : X) (line : ℕ) (w : Why) → IsLeftHeld (start bytes) (Some first) line w → IsFounding first.1
+  -- the founding is held back
+  founded_only : (here : Place) (first : ℕ × Event) (office : X) (line : ℕ) (w : Why) → IsLeftHeld (start bytes) (Some first) line w → IsFounding first.1
       → (m.is_clean office → Stands m (first.1 ∷ []) office) → IsHalted bytes m office line w
   founded_only here first office line (halt.Unread fault) at founding stands =
       let kept : first ∷ [] ≡ kept_at fault [] at.last =
@@ -147,8 +110,69 @@ module _ {X : Type 0} (m : Meaning X) (bytes : Option (List ℕ)) where
   founded_only here first office line (halt.Unfounded fault) at founding stands = absurd at
   founded_only here first office line (halt.Unreplayed cause) at founding stands = absurd at
 
-  -- a `?` that leaves with this
-  pub left_by : (left : X) (before after : ℕ) (seal : List ℕ) (lines : ℕ) (result : Result ⊤ Refused) (refused : Refused) → IsErrAnd result (λ e. e ≡ refused) → IsHalted bytes m left refused.line refused.why
-      → BuildsOn bytes m left before after seal lines result
-  left_by left before after seal lines (Ok done) refused is at = absurd is
-  left_by left before after seal lines (Err r) refused is at = subst (λ (r : Refused). IsHalted bytes m left r.line r.why) (sym is) at
+  -- the input or memory failed, or an event behind the founding didn't happen again
+  outside_behind : (here : Place) (office : X) (line : ℕ) (w : Why) → ends_there w ≡ false → StopsBehind m bytes office here line w → IsHalted bytes m office line w
+  outside_behind here office line (halt.Unread fault) ends at =
+      built_alone at.last here at.es office line fault at.replayed at.at (subst (λ (b : Bool). no_event ≡ kept_by b at.es (standing here.taken here.held)) (sym ends) (none_kept at.es (standing here.taken here.held) at.some))
+  outside_behind here office line halt.NotFounded ends at = absurd at
+  outside_behind here office line (halt.Unfounded fault) ends at = absurd at
+  outside_behind here office line (halt.Unreplayed cause) ends at = record {
+    here = at.here;
+    before = at.before;
+    office = at.old;
+    replayed = at.replayed;
+    event = at.event;
+    comes = inl (at.after, at.told);
+    refused = at.refused;
+  }
+
+  pub outside : (here : Place) (office : X) (refused : Refused) → ends_there refused.why ≡ false → Stops m bytes office here refused → IsHalted bytes m office refused.line refused.why
+  outside here office refused ends (inl (first, begun)) = founded_only here first office refused.line refused.why begun.told.0 begun.founding begun.stands
+  outside here office refused ends (inr at) = outside_behind here office refused.line refused.why ends at
+
+  -- no event is held back
+  off_behind : (here : Place) (office : X) (line : ℕ) (w : Why) → ends_there w ≡ true → StopsBehind m bytes office here line w → None ≡ held_at here → IsHalted bytes m office line w
+  off_behind here office line (halt.Unread fault) ends at none =
+      built_alone at.last here at.es office line fault at.replayed at.at
+      (none_held (ends_at fault) at.es ∙ ap (kept_by (ends_at fault) at.es) (sym (none_stands here.taken here.held none)))
+  off_behind here office line halt.NotFounded ends at none = absurd at
+  off_behind here office line (halt.Unfounded fault) ends at none = absurd at
+  off_behind here office line (halt.Unreplayed cause) ends at none = absurd cc
+
+  pub built_off : (here : Place) (office : X) (refused : Refused) → ends_there refused.why ≡ true → Stops m bytes office here refused → None ≡ held_at here
+      → IsHalted bytes m office refused.line refused.why
+  built_off here office refused ends (inl (first, begun)) none = founded_only here first office refused.line refused.why begun.told.0 begun.founding begun.stands
+  built_off here office refused ends (inr at) none = off_behind here office refused.line refused.why ends at none
+
+  -- the one that is happens again
+  one_behind : (here : Place) (placed : ℕ × Event) (office left : X) (line : ℕ) (w : Why) → ends_there w ≡ true → StopsBehind m bytes office here line w → Some placed ≡ held_at here
+      → HasHappened m office left placed.1 → IsHalted bytes m left line w
+  one_behind here placed office left line (halt.Unread fault) ends at is happened =
+      built_at at.last here at.es (placed ∷ []) left line fault at.replayed.told at.at (sym (held_stands here.taken here.held placed is) ∙ last_kept (ends_at fault) at.es (standing here.taken here.held) ends)
+      (more_lawful m bytes at.last at.es placed.0 placed.1 office left at.replayed happened) (more_stands m bytes at.last at.es placed.0 placed.1 office left at.replayed happened)
+  one_behind here placed office left line halt.NotFounded ends at is happened = absurd at
+  one_behind here placed office left line (halt.Unfounded fault) ends at is happened = absurd at
+  one_behind here placed office left line (halt.Unreplayed cause) ends at is happened = absurd cc
+
+  -- which isn't the founding
+  none_spent : (placed : ℕ × Event) (kept : Option (ℕ × Event)) → Some placed ≡ kept → kept ≡ None → ⊥
+  none_spent placed kept is none = cc
+
+  pub built_behind : (here : Place) (placed : ℕ × Event) (office left : X) (refused : Refused) → ends_there refused.why ≡ true → Stops m bytes office here refused → Some placed ≡ held_at here
+      → HasHappened m office left placed.1 → IsHalted bytes m left refused.line refused.why
+  built_behind here placed office left refused ends (inl (first, begun)) is happened = absurd (none_spent placed (held_at here) is begun.told.1)
+  built_behind here placed office left refused ends (inr at) is happened = one_behind here placed office left refused.line refused.why ends at is happened
+
+  -- or it doesn't
+  out_behind : (here : Place) (placed : ℕ × Event) (office left : X) (line : ℕ) (w : Why) (out : Refused) → ends_there w ≡ true → StopsBehind m bytes office here line w → Some placed ≡ held_at here
+      → IsOut m office left placed out.line out.why → IsHalted bytes m left out.line out.why
+  out_behind here placed office left line (halt.Unread fault) out ends at is kept =
+      kept_out at.last at.es office left placed out.line out.why at.replayed (comes_there at.last here line (halt.Unread fault) placed ends at.at is) kept
+  out_behind here placed office left line halt.NotFounded out ends at is kept = absurd at
+  out_behind here placed office left line (halt.Unfounded fault) out ends at is kept = absurd at
+  out_behind here placed office left line (halt.Unreplayed cause) out ends at is kept = absurd cc
+
+  pub built_out : (here : Place) (placed : ℕ × Event) (office left : X) (refused out : Refused) → ends_there refused.why ≡ true → Stops m bytes office here refused → Some placed ≡ held_at here
+      → IsOut m office left placed out.line out.why → IsHalted bytes m left out.line out.why
+  built_out here placed office left refused out ends (inl (first, begun)) is kept = absurd (none_spent placed (held_at here) is begun.told.1)
+  built_out here placed office left refused out ends (inr at) is kept = out_behind here placed office left refused.line refused.why out ends at is kept

@@ -53,4 +53,4 @@ held_comes from placed line (why.Unreplayed cause) at = absurd at
 
 pub first_comes : (from here : Place) (placed : ℕ × Event) (halted : Option Refused) → IsFirstRead from here placed halted → ComesNext from placed
 first_comes from here placed None first = inl (here, first)
-first_comes from here placed (Some refused) first = held_comes from placed refused.line refused.why first
+first_comes from here placed (Some refused) first = held_comes from placed refused.line refused.why first.0

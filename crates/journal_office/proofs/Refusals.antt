@@ -1,11 +1,9 @@
 -- Where and why no office is built anew.
-use Rattle.std.proofs.Common.{◌≡◌, ◌∙◌, ℕ, List, [], ◌∷◌, Option, Some, None, Result, Ok, Err, inl, inr, sym, refl, ap, ap₂, subst, append-nil}
+use Rattle.std.proofs.Common.{◌≡◌, ◌∙◌, ◌<◌, ℕ, List, [], ◌∷◌, length, Option, Some, None, Result, Ok, Err, inl, inr, sym, refl, ap, ap₂, subst, append-nil}
 use Rattle.std.specs.Prelude.{IsErrAnd, ⊤, option_map, unwrap_or}
 use Rattle.sqlite.specs.Held.{Held}
 use Rattle.sqlite.specs.Store.{Ghosts}
-use Rattle.office_policy.specs.Handled.{Stands}
 use Rattle.office_policy.specs.History.{Event}
-use Rattle.office_policy.specs.Lawful.{IsFounding}
 use Rattle.office_policy.specs.Meaning.{Meaning}
 use Rattle.office_desk.specs.Meant.{meaning_over}
 use Rattle.journal.specs.declared.fault.Unreadable.{Unreadable}
@@ -14,7 +12,7 @@ use Rattle.journal_office.specs.declared.refused.Refused.{Refused}
 use Rattle.journal_office.specs.declared.refused.Why.{Why}
 use Rattle.journal_office.specs.declared.refused.Why.TheVariants as why
 use Rattle.journal_office.specs.Rebuilt.{HasReplayed, IsRefused, line_behind}
-use Rattle.journal_office.specs.Steps.{Continues, IsFirstRead, IsKeptOut, IsLeft, IsLeftBehind, IsLeftHeld, IsNoFirst, IsNoFounding, IsNoneRead, IsUnbegun, LeavesAt, LeavesHeld}
+use Rattle.journal_office.specs.Steps.{Continues, HasBegun, IsFirstRead, IsKeptOut, IsLeft, IsLeftBehind, IsLeftHeld, IsNoFounding, IsNoneRead, IsUnbegun, LeavesAt, LeavesHeld, Stops, StopsBehind}
 use Rattle.journal_office.proofs.Replays.{goes_then}
 
 -- a journal that is left at this place
@@ -22,12 +20,6 @@ pub left_here : (here after : Place) (fault : Unreadable) (refused : Refused) �
     → IsLeft here after refused.line refused.why
 left_here here after fault refused is leaves =
     subst (λ (r : Refused). IsLeft here after r.line r.why) (sym is) (record { leaves = leaves; counted = refl })
-
-pub left_first : (here after : Place) (line : ℕ) (w : Why) → IsLeft here after line w → IsNoFirst here after line w
-left_first here after line (why.Unread fault) left = left
-left_first here after line why.NotFounded left = absurd left
-left_first here after line (why.Unfounded fault) left = absurd left
-left_first here after line (why.Unreplayed cause) left = absurd left
 
 -- the event that is held back at a place
 pub held_there : (after last : Place) → after.taken ≡ last.taken → after.held ≡ last.held → held_at after ≡ held_at last
@@ -71,12 +63,6 @@ module _ {X : Type 0} (m : Meaning X) (bytes : Option (List ℕ)) where
   left_behind here after es office left line (why.Unfounded fault) same all at = absurd at
   left_behind here after es office left line (why.Unreplayed cause) same all at = absurd at
 
-  -- a `?` that leaves with it
-  pub left_by : (left : X) (count : ℕ) (seal : List ℕ) (lines : ℕ) (result : Result ⊤ Refused) (refused : Refused) → IsErrAnd result (λ e. e ≡ refused) → IsLeftBehind m bytes left refused.line refused.why
-      → Continues m bytes left count seal lines result
-  left_by left count seal lines (Ok done) refused is at = absurd is
-  left_by left count seal lines (Err r) refused is at = subst (λ (r : Refused). IsLeftBehind m bytes left r.line r.why) (sym is) at
-
   -- the next event doesn't happen again
   pub kept_out : (here after : Place) (es : List (ℕ × Event)) (placed : ℕ × Event) (old left : X) (line : ℕ) (w : Why) → HasReplayed bytes m here es old → GoesOn here after (placed ∷ [])
       → IsKeptOut m old left placed line w → IsLeftBehind m bytes left line w
@@ -94,25 +80,70 @@ module _ {X : Type 0} (m : Meaning X) (bytes : Option (List ℕ)) where
     refused = is.1;
   }
 
-  -- the founding is the first event
-  pub first_replayed : (after : Place) (line : ℕ) (e : Event) (office : X) → GoesOn (start bytes) after ((line, e) ∷ []) → IsFounding e
-      → (m.is_clean office → Stands m (e ∷ []) office) → HasReplayed bytes m after ((line, e) ∷ []) office
-  first_replayed after line e office told founding stands = record { told = told; lawful = λ clean. founding; stands = stands }
+  -- where the journal can be read on, the founding is the first event
+  pub begun_on : (here : Place) (first : ℕ × Event) (halt : Option Refused) (office : X) → halt ≡ None → HasBegun m bytes office here first halt → HasReplayed bytes m here (first ∷ []) office
+  begun_on here first halt office none begun = record {
+    told = subst (λ (h : Option Refused). IsFirstRead (start bytes) here first h) none begun.told;
+    lawful = λ clean. begun.founding;
+    stands = begun.stands;
+  }
 
-module _ {S : Type 0} (g : Ghosts S) (bytes : Option (List ℕ)) (conn left : Held S) (line : ℕ) where
-  pub none_first : (after : Place) (w : Why) → IsNoFirst (start bytes) after line w → IsRefused bytes g conn left line w
-  none_first after (why.Unread fault) at = record {
-    last = at.leaves.last;
+  -- and else no event stands before the line
+  pub none_before : (left : X) (line : ℕ) (w : Why) (kept : Option (ℕ × Event)) → IsLeftHeld (start bytes) kept line w → IsLeftBehind m bytes left line w
+  none_before left line (why.Unread fault) kept at = record {
+    last = at.last;
     before = [];
-    told = at.leaves.on;
-    cannot = at.leaves.cannot;
-    counted = at.counted ∙ ap line_behind at.leaves.taken;
+    told = at.on;
+    cannot = at.cannot;
+    counted = at.counted;
     lawful = λ clean. inl refl;
   }
-  none_first after why.NotFounded at = inl at
-  none_first after (why.Unfounded fault) at = absurd at
-  none_first after (why.Unreplayed cause) at = absurd at
+  none_before left line why.NotFounded kept at = absurd at
+  none_before left line (why.Unfounded fault) kept at = absurd at
+  none_before left line (why.Unreplayed cause) kept at = absurd at
 
+  -- ---- how all that happens again ends
+
+  -- the journal can't be read on
+  pub stops_unread : (here after : Place) (es : List (ℕ × Event)) (office left : X) (line : ℕ) (w : Why) → left ≡ office → HasReplayed bytes m here es office → 0 < length es
+      → IsLeft here after line w → StopsBehind m bytes left after line w
+  stops_unread here after es office left line (why.Unread fault) same all some at = record {
+    last = here;
+    es = es;
+    some = some;
+    replayed = subst (HasReplayed bytes m here es) (sym same) all;
+    at = at;
+  }
+  stops_unread here after es office left line why.NotFounded same all some at = absurd at
+  stops_unread here after es office left line (why.Unfounded fault) same all some at = absurd at
+  stops_unread here after es office left line (why.Unreplayed cause) same all some at = absurd at
+
+  -- or the next event doesn't happen again
+  pub stops_out : (here behind after : Place) (es : List (ℕ × Event)) (placed : ℕ × Event) (old left : X) (line : ℕ) (w : Why) → HasReplayed bytes m here es old
+      → GoesOn here behind (placed ∷ []) → IsKeptOut m old left placed line w → StopsBehind m bytes left after line w
+  stops_out here behind after es placed old left line (why.Unread fault) before told is = absurd is
+  stops_out here behind after es placed old left line why.NotFounded before told is = absurd is
+  stops_out here behind after es placed old left line (why.Unfounded fault) before told is = absurd is
+  stops_out here behind after es placed old left line (why.Unreplayed cause) before told is = kept_out here behind es placed old left line (why.Unreplayed cause) before told is
+
+  -- a `?` that leaves with that
+  pub stops_by : (left : X) (count : ℕ) (here : Place) (result : Result ⊤ Refused) (refused : Refused) → IsErrAnd result (λ e. e ≡ refused)
+      → StopsBehind m bytes left here refused.line refused.why → Continues m bytes left count here result
+  stops_by left count here (Ok done) refused is at = absurd is
+  stops_by left count here (Err r) refused is at = inr (subst (λ (r : Refused). StopsBehind m bytes left here r.line r.why) (sym is) at)
+
+  -- what is left by it
+  stopped_behind : (left : X) (here : Place) (line : ℕ) (w : Why) → StopsBehind m bytes left here line w → IsLeftBehind m bytes left line w
+  stopped_behind left here line (why.Unread fault) at = left_behind at.last here at.es left left line (why.Unread fault) refl at.replayed at.at
+  stopped_behind left here line why.NotFounded at = absurd at
+  stopped_behind left here line (why.Unfounded fault) at = absurd at
+  stopped_behind left here line (why.Unreplayed cause) at = at
+
+  pub stopped : (left : X) (here : Place) (refused : Refused) → Stops m bytes left here refused → IsLeftBehind m bytes left refused.line refused.why
+  stopped left here refused (inl (first, begun)) = none_before left refused.line refused.why (Some first) begun.told.0
+  stopped left here refused (inr at) = stopped_behind left here refused.line refused.why at
+
+module _ {S : Type 0} (g : Ghosts S) (bytes : Option (List ℕ)) (conn left : Held S) (line : ℕ) where
   pub none_founded : (after : Place) (e : Event) (w : Why) → GoesOn (start bytes) after ((line, e) ∷ []) → IsNoFounding g e conn left w → IsRefused bytes g conn left line w
   none_founded after e (why.Unread fault) told is = absurd is
   none_founded after e why.NotFounded told is = inr (record { event = e; after = after; told = told; other = is })
@@ -135,11 +166,6 @@ module _ {S : Type 0} (g : Ghosts S) (bytes : Option (List ℕ)) (conn left : He
   none_behind (why.Unreplayed cause) at = at
 
 module _ {S : Type 0} (g : Ghosts S) (bytes : Option (List ℕ)) (conn : Held S) where
-  pub begun_unfounded : (from here : Place) (line : ℕ) (e : Event) (w : Why) (left : Held S) → from ≡ start bytes → GoesOn from here ((line, e) ∷ []) → IsNoFounding g e conn left w
-      → IsRefused bytes g conn left line w
-  begun_unfounded from here line e w left at told none =
-      none_founded g bytes conn left line here e w (subst (λ (p : Place). GoesOn p here ((line, e) ∷ [])) at told) none
-
   -- nothing founds one
   none_held : (line : ℕ) (w : Why) → IsNoneRead (start bytes) line w → IsUnbegun bytes g conn conn line w
   none_held line (why.Unread fault) none = record { kept = None; held = none; none = tt }
@@ -173,7 +199,21 @@ module _ {S : Type 0} (g : Ghosts S) (bytes : Option (List ℕ)) (conn : Held S)
       (subst (λ (n : ℕ). GoesOn (start bytes) here ((n, placed.1) ∷ [])) (sym line) (subst (λ (p : Place). GoesOn p here (placed ∷ [])) at first)) none
   unbegun from here placed (Some behind) left refused at first line none =
       held_unfounded behind.line behind.why refused.why placed left
-      (subst (λ (p : Place). IsLeftHeld p (Some placed) behind.line behind.why) at first) none
+      (subst (λ (p : Place). IsLeftHeld p (Some placed) behind.line behind.why) at first.0) none
+
+  -- no office is built of it then
+  pub unbegun_refused : (left : Held S) (line : ℕ) (w : Why) → IsUnbegun bytes g conn left line w → IsRefused bytes g conn left line w
+  unbegun_refused left line (why.Unread fault) at = record {
+    last = at.held.last;
+    before = [];
+    told = at.held.on;
+    cannot = at.held.cannot;
+    counted = at.held.counted;
+    lawful = λ clean. inl refl;
+  }
+  unbegun_refused left line why.NotFounded at = at
+  unbegun_refused left line (why.Unfounded fault) at = at
+  unbegun_refused left line (why.Unreplayed cause) at = absurd at
 
   pub begun_read : (from here : Place) (placed : ℕ × Event) (halt : Option Refused) → from ≡ start bytes → IsFirstRead from here placed halt → IsFirstRead (start bytes) here placed halt
   begun_read from here placed halt at first = subst (λ (p : Place). IsFirstRead p here placed halt) at first

@@ -1,5 +1,5 @@
 -- An office that is built anew as far as its journal can be read.
-use Rattle.std.specs.Prelude.{◌≡◌, ◌⊎◌, ◌+◌, ◌-◌, ◌^◌, ◌++◌, [], ◌∷◌, ℕ, min, Bool, true, false}
+use Rattle.std.specs.Prelude.{◌≡◌, ◌⊎◌, ◌-◌, ◌^◌, ◌++◌, [], ◌∷◌, ℕ, min, Bool, true, false}
 use Rattle.std.specs.Prelude.{List, Option, Result, Ok, Err, ⊤}
 use Rattle.sqlite.specs.Held.{Held, state}
 use Rattle.sqlite.specs.Store.{Ghosts}
@@ -24,13 +24,14 @@ use Rattle.journal_office.specs.Steps.{IsLast, IsUnbegun}
 
 -- the journal ends before a line that can't be: it isn't that the input or memory failed, of which
 -- the line may be one that strikes out
-abbrev pub ends_there : Why → Bool
-ends_there (halt.Unread unreadable.Read) = false
-ends_there (halt.Unread (unreadable.NoMemory _)) = false
-ends_there _ = true
-
 abbrev pub ends_at : Unreadable → Bool
-ends_at fault = ends_there (halt.Unread fault)
+ends_at unreadable.Read = false
+ends_at (unreadable.NoMemory _) = false
+ends_at _ = true
+
+abbrev pub ends_there : Why → Bool
+ends_there (halt.Unread fault) = ends_at fault
+ends_there _ = false
 
 -- the event that is held back before a line that can't be read, behind these events, as far as it is
 -- kept: where the journal ends there, and else where it is the first, without which there is no office
@@ -88,11 +89,10 @@ module _ (bytes : Option (List ℕ)) {X : Type 0} (m : Meaning X) (left : X) whe
   IsHalted line (halt.Unfounded fault) = ⊥
   IsHalted line (halt.Unreplayed cause) = IsKeptOut line cause
 
-  -- all of it does, one event and as many as were counted from before to after; or not
-  abbrev pub BuildsOn : (before after : ℕ) → List ℕ → (lines : ℕ) → Result ⊤ Refused → Type 0
-  BuildsOn before after seal lines (Ok done) =
-      IsRebuilt bytes m ((after - before) + 1) seal lines left
-  BuildsOn before after seal lines (Err refused) = IsHalted refused.line refused.why
+  -- all of it does, so many events; or not
+  abbrev pub BuildsOn : (count : ℕ) → Place → Result ⊤ Refused → Type 0
+  BuildsOn count here (Ok done) = IsRebuilt bytes m count here.seal here.taken left
+  BuildsOn count here (Err refused) = IsHalted refused.line refused.why
 
 -- why the office isn't of all that the journal tells: none is founded over the connection; or one is
 -- over an empty store, whose disk was clean where that of the office is, and no more happens again in

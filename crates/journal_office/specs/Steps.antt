@@ -1,12 +1,13 @@
 -- What is done with the events of a journal.
 use Rattle.std.specs.Prelude.{◌≡◌, ◌⊎◌, ◌↔◌, ◌+◌, ◌-◌, ◌^◌, ◌<◌, [], ◌∷◌, ℕ, List, Option, Some, None}
-use Rattle.std.specs.Prelude.{Result, Ok, Err, IfSome, IsTrue, ⊤}
+use Rattle.std.specs.Prelude.{Result, Ok, Err, IfSome, IsTrue, length, ⊤}
 use Rattle.sqlite.specs.Held.{Held, state}
 use Rattle.sqlite.specs.State.{HasCleanDisk}
 use Rattle.sqlite.specs.Store.{Ghosts}
 use Rattle.office_founding.specs.declared.fault.FoundingFault.{FoundingFault}
 use Rattle.office_founding.specs.declared.fault.FoundingFault.TheVariants.{AlreadyFounded}
 use Rattle.office_founding.specs.Founding.{FailsToFound, first_user, has_table}
+use Rattle.office_policy.specs.Handled.{Stands}
 use Rattle.office_policy.specs.History.{Event, founded}
 use Rattle.office_policy.specs.Lawful.{IsFounding}
 use Rattle.office_policy.specs.Meaning.{Meaning}
@@ -18,7 +19,7 @@ use Rattle.journal.specs.Told.{placed_meant, start}
 use Rattle.journal_office.specs.declared.refused.Refused.{Refused}
 use Rattle.journal_office.specs.declared.refused.Why.{Why}
 use Rattle.journal_office.specs.declared.refused.Why.TheVariants as why
-use Rattle.journal_office.specs.Rebuilt.{IsNotFounded, IsRebuilt, IsUnfounded, IsUnread}
+use Rattle.journal_office.specs.Rebuilt.{HasReplayed, IsNotFounded, IsRebuilt, IsUnfounded, IsUnread}
 use Rattle.journal_office.specs.Rebuilt.{IsUnreplayed, line_behind}
 
 -- the journal can't be read further than to a line, for this fault
@@ -51,18 +52,6 @@ pub record IsLast (here : Place) (placed : ℕ × Event) : Type 0 where
 abbrev pub ComesNext : Place → (ℕ × Event) → Type 0
 ComesNext here placed = ((behind : Place) × GoesOn here behind (placed ∷ [])) ⊎ IsLast here placed
 
--- the journal can't be read on, or tells nothing
-abbrev pub IsNoFirst : (old new : Place) → ℕ → Why → Type 0
-IsNoFirst old new line (why.Unread fault) = LeavesAt old new line fault
-IsNoFirst old new line why.NotFounded = Tells old [] × (line ≡ 0)
-IsNoFirst old new line (why.Unfounded fault) = ⊥
-IsNoFirst old new line (why.Unreplayed cause) = ⊥
-
--- the first event that stands
-abbrev pub IsFirst : Place → Place → Result Placed Refused → Type 0
-IsFirst old new (Ok placed) = GoesOn old new (placed_meant placed ∷ [])
-IsFirst old new (Err refused) = IsNoFirst old new refused.line refused.why
-
 -- the journal can't be read further than to a line, for this fault. No event stands before, and this
 -- one is held back there, or none
 pub record LeavesHeld (old : Place) (kept : Option (ℕ × Event)) (line : ℕ) (fault : Unreadable)
@@ -79,11 +68,11 @@ IsLeftHeld old kept line why.NotFounded = ⊥
 IsLeftHeld old kept line (why.Unfounded fault) = ⊥
 IsLeftHeld old kept line (why.Unreplayed cause) = ⊥
 
--- the event is the first one that stands; or it is held back where the journal can't be read on
+-- the event is the first one that stands; or it was held back where the journal can't be read on
 abbrev pub IsFirstRead : (old new : Place) → (ℕ × Event) → Option Refused → Type 0
 IsFirstRead old new placed None = GoesOn old new (placed ∷ [])
 IsFirstRead old new placed (Some refused) =
-    IsLeftHeld old (Some placed) refused.line refused.why
+    IsLeftHeld old (Some placed) refused.line refused.why × (held_at new ≡ None)
 
 -- no event stands, nor is one held back
 abbrev pub IsNoneRead : Place → ℕ → Why → Type 0
@@ -157,8 +146,36 @@ module _ {X : Type 0} (m : Meaning X) (bytes : Option (List ℕ)) (left : X) whe
   IsLeftBehind line (why.Unfounded fault) = ⊥
   IsLeftBehind line (why.Unreplayed cause) = IsUnreplayed bytes m left line cause
 
-  -- the events behind the first all happen again, or one doesn't; with the first they are so many.
-  -- Seal and number of lines are the journal's
-  abbrev pub Continues : ℕ → List ℕ → (lines : ℕ) → Result ⊤ Refused → Type 0
-  Continues count seal lines (Ok done) = IsRebuilt bytes m count seal lines left
-  Continues count seal lines (Err refused) = IsLeftBehind refused.line refused.why
+  -- the office is of the first event that can be read of the journal
+  pub record HasBegun (here : Place) (first : ℕ × Event) (halt : Option Refused) : Type 0 where
+    pub told : IsFirstRead (start bytes) here first halt
+    pub founding : IsFounding first.1
+    pub stands : m.is_clean left → Stands m (first.1 ∷ []) left
+
+  -- the office is of the events up to a place; from there the journal can't be read further than to
+  -- a line
+  pub record IsOfAllBefore (here : Place) (line : ℕ) (fault : Unreadable) : Type 0 where
+    pub last : Place
+    pub es : List (ℕ × Event)
+    pub some : 0 < length es
+    pub replayed : HasReplayed bytes m last es left
+    pub at : LeavesAt last here line fault
+
+  -- where and why no event behind the first happens again any more
+  abbrev pub StopsBehind : Place → ℕ → Why → Type 0
+  StopsBehind here line (why.Unread fault) = IsOfAllBefore here line fault
+  StopsBehind here line why.NotFounded = ⊥
+  StopsBehind here line (why.Unfounded fault) = ⊥
+  StopsBehind here line (why.Unreplayed cause) = IsUnreplayed bytes m left line cause
+
+  -- where and why no more does, and of what the office is then
+  abbrev pub Stops : Place → Refused → Type 0
+  Stops here refused =
+      ((first : ℕ × Event) × HasBegun here first (Some refused))
+      ⊎ StopsBehind here refused.line refused.why
+
+  -- the events behind the first all happen again, or not; with the first they are so many. Seal and
+  -- number of lines are the journal's
+  abbrev pub Continues : (count : ℕ) → Place → Result ⊤ Refused → Type 0
+  Continues count here (Ok done) = IsRebuilt bytes m count here.seal here.taken left
+  Continues count here (Err refused) = Stops here refused

@@ -1,7 +1,7 @@
 //! An office, built anew from its journal.
 
 ghost use Rattle.std.specs.Prelude.{◌≡◌, ◌-◌, ◌^◌, [], ℕ, List, Option, None, Some, IfErr, IfOk};
-ghost use Rattle.std.specs.Prelude.{IfSome, OnOk, length};
+ghost use Rattle.std.specs.Prelude.{IfSome, OnOk};
 ghost use Rattle.sqlite.specs.Held.{state};
 ghost use Rattle.sqlite.specs.State.{HasCleanDisk};
 ghost use Rattle.office_store.specs.Schema.{no_schema};
@@ -11,8 +11,8 @@ ghost use Rattle.sealed_log.specs.Told.{told};
 ghost use Rattle.journal.specs.SealsAt.{IsFound, IsSealAsked, IsSeen};
 ghost use Rattle.journal.specs.Told.{place};
 ghost use Rattle.office_desk.specs.Meant.{meaning_over};
-ghost use Rattle.journal_office.specs.Rebuilt.{HasReplayed, Rebuilds, Refutes};
-ghost use Rattle.journal_office.specs.Steps.{Continues};
+ghost use Rattle.journal_office.specs.Rebuilt.{Rebuilds, Refutes};
+ghost use Rattle.journal_office.specs.Steps.{Continues, HasBegun};
 
 use crate::refused::Refused;
 use crate::replay::Replay;
@@ -22,25 +22,32 @@ use sqlite::{Alter, Connection};
 use std::alloc::Global;
 use std::io::BufRead;
 
-// Has each further event happen again.
-fn replay_rest<S: Alter, R: BufRead>(
+// Has each further event happen again, where the journal could be read on behind the first. Where and
+// why no more does.
+pub(crate) fn replay_rest<S: Alter, R: BufRead>(
     alloc: Global,
     replay: &mut Replay<S, R>,
+    halt: Option<Refused>,
 ) -> Result<(), Refused>
-    requires { replay.old.events.fault ≡ None }
-    ensures replayed { (bytes : Option (List ℕ)) (es : List (ℕ × TheEvent))
-        → HasReplayed bytes (meaning_over S.Store)
-        (place R.remaining replay.old.events) es replay.old.office
-        → length es ≡ replay.old.count
+    requires { halt ≡ None → replay.old.events.fault ≡ None }
+    ensures replayed { (bytes : Option (List ℕ)) (first : ℕ × TheEvent)
+        → HasBegun (meaning_over S.Store) bytes replay.old.office
+        (place R.remaining replay.old.events) first halt
+        → replay.old.count ≡ 1
         → Continues (meaning_over S.Store) bytes replay.new.office replay.new.count
-        (place R.remaining replay.new.events).seal
-        (place R.remaining replay.new.events).taken result }
+        (place R.remaining replay.new.events) result }
+    ensures read { IfOk result (λ _. halt ≡ None) }
     ensures seen { (bytes : Option (List ℕ))
         → IsSeen bytes (place R.remaining replay.old.events) replay.old.events.at → IfOk result
         (λ _. IsSeen bytes (place R.remaining replay.new.events) replay.new.events.at
         × IfSome bytes (λ _. (place R.remaining replay.new.events).left ≡ Some [])) }
     ensures line { replay.new.events.at.line ≡ replay.old.events.at.line }
+    ensures clean { HasCleanDisk (state S.Store replay.new.office)
+        → HasCleanDisk (state S.Store replay.old.office) }
 {
+    if let Some(refused) = halt {
+        return Err(refused);
+    }
     'events: while let Some(placed) = replay.next(alloc)? {
         replay.happen(alloc, placed)?;
     }
@@ -107,9 +114,9 @@ pub fn rebuild<S: Alter, R: BufRead + Drop>(
     ensures empty { OnOk result ((state S.Store conn).now.schema ≡ no_schema) }
     ensures idle { IfErr result (λ refusal. IsIdle (state S.Store refusal.1)) }
 {
-    let (mut replay, first) = Replay::begin(alloc, conn, journal, kept_lines(line))?;
+    let (mut replay, first, halt) = Replay::begin(alloc, conn, journal, kept_lines(line))?;
     drop(first);
-    let replayed = replay_rest(alloc, &mut replay);
+    let replayed = replay_rest(alloc, &mut replay, halt);
     let events = replay.count();
     let seal = replay.seal();
     let lines = replay.taken();

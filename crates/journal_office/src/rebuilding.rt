@@ -1,25 +1,21 @@
 //! An office, built anew over a store as far as its journal can be read.
 
-ghost use Rattle.std.specs.Prelude.{◌≡◌, ◌<◌, ◌+◌, ◌-◌, ◌∷◌, ◌^◌, [], ℕ, List, Option, None, IfErr, IfOk};
-ghost use Rattle.std.specs.Prelude.{OnOk, length};
+ghost use Rattle.std.specs.Prelude.{◌≡◌, ◌-◌, ◌^◌, ℕ, List, Option, None, IfErr, IfOk, OnOk};
 ghost use Rattle.sqlite.specs.Held.{state};
 ghost use Rattle.sqlite.specs.State.{HasCleanDisk};
 ghost use Rattle.office_store.specs.Schema.{no_schema};
 ghost use Rattle.office_store.specs.Shown.{IsIdle};
-ghost use Rattle.office_policy.specs.Handled.{Stands};
 ghost use Rattle.office_policy.specs.History.{Event as TheEvent};
-ghost use Rattle.office_policy.specs.Lawful.{IsFounding};
 ghost use Rattle.office_desk.specs.Meant.{meaning_over};
-ghost use Rattle.journal.specs.Told.{Gives, Place, place, start};
-ghost use Rattle.journal_office.specs.Rebuilt.{HasReplayed};
-ghost use Rattle.journal_office.specs.Steps.{CountsNext, IsFirstRead, IsLeft};
+ghost use Rattle.journal.specs.Told.{place};
+ghost use Rattle.journal_office.specs.Steps.{HasBegun, Stops};
 ghost use Rattle.journal_office.specs.Rebuilding.{BuildsOn, IsBuilt, IsHalted, IsUnbuilt};
 ghost use Rattle.journal_office.specs.Rebuilding.{ends_there};
 
-use crate::office::Rebuilt;
+use crate::office::{Rebuilt, replay_rest};
 use crate::refused::{Refused, Why};
 use crate::replay::Replay;
-use journal::{Placed, Unreadable};
+use journal::Unreadable;
 use sqlite::{Alter, Connection};
 use std::alloc::Global;
 use std::io::BufRead;
@@ -32,20 +28,21 @@ fn ends_there(why: &Why) -> bool
     match why {
         Why::Unread(Unreadable::Read) => false,
         Why::Unread(Unreadable::NoMemory(_)) => false,
-        _ => true,
+        Why::Unread(_) => true,
+        _ => false,
     }
 }
 
 // Of a journal that can't be read on, has the event that is held back happen again, where one is that
 // can't be struck out any more. Why no more does.
-fn rebuild_last<S: Alter, R: BufRead>(
+fn replay_last<S: Alter, R: BufRead>(
     alloc: Global,
     replay: &mut Replay<S, R>,
     refused: Refused,
 ) -> Refused
-    ensures halted { (bytes : Option (List ℕ)) (here : Place) (es : List (ℕ × TheEvent))
-        → HasReplayed bytes (meaning_over S.Store) here es replay.old.office → 0 < length es
-        → IsLeft here (place R.remaining replay.old.events) refused.line refused.why
+    ensures halted { (bytes : Option (List ℕ))
+        → Stops (meaning_over S.Store) bytes replay.old.office
+        (place R.remaining replay.old.events) refused
         → IsHalted bytes (meaning_over S.Store) replay.new.office result.line result.why }
     ensures clean { HasCleanDisk (state S.Store replay.new.office)
         → HasCleanDisk (state S.Store replay.old.office) }
@@ -62,74 +59,25 @@ fn rebuild_last<S: Alter, R: BufRead>(
     }
 }
 
-// The next event that stands. Where the journal can't be read on, the one that is held back happens
-// again first.
-fn next_event<S: Alter, R: BufRead>(
-    alloc: Global,
-    replay: &mut Replay<S, R>,
-) -> Result<Option<Placed>, Refused>
-    requires { replay.old.events.fault ≡ None }
-    ensures office { IfOk result (λ _. replay.new.office ≡ replay.old.office) }
-    ensures next { IfOk result (λ found. Gives (place R.remaining replay.old.events)
-        (place R.remaining replay.new.events) (Ok found)) }
-    ensures fault { IfOk result (λ _. replay.new.events.fault ≡ None) }
-    ensures count { IfOk result (CountsNext replay.old.count replay.new.count) }
-    ensures halted { IfErr result (λ refused. (bytes : Option (List ℕ)) (es : List (ℕ × TheEvent))
-        → HasReplayed bytes (meaning_over S.Store)
-        (place R.remaining replay.old.events) es replay.old.office → 0 < length es
-        → IsHalted bytes (meaning_over S.Store) replay.new.office refused.line refused.why) }
-    ensures clean { HasCleanDisk (state S.Store replay.new.office)
-        → HasCleanDisk (state S.Store replay.old.office) }
-{
-    match replay.next(alloc) {
-        Ok(found) => Ok(found),
-        Err(refused) => Err(rebuild_last(alloc, replay, refused)),
-    }
-}
-
-// Has each further event happen again.
-fn rebuild_rest<S: Alter, R: BufRead>(
-    alloc: Global,
-    replay: &mut Replay<S, R>,
-) -> Result<(), Refused>
-    requires { replay.old.events.fault ≡ None }
-    ensures built { (bytes : Option (List ℕ)) (es : List (ℕ × TheEvent))
-        → HasReplayed bytes (meaning_over S.Store)
-        (place R.remaining replay.old.events) es replay.old.office
-        → length es ≡ 1
-        → BuildsOn bytes (meaning_over S.Store) replay.new.office replay.old.count replay.new.count
-        (place R.remaining replay.new.events).seal
-        (place R.remaining replay.new.events).taken result }
-    ensures clean { HasCleanDisk (state S.Store replay.new.office)
-        → HasCleanDisk (state S.Store replay.old.office) }
-{
-    'events: while let Some(placed) = next_event(alloc, replay)? {
-        replay.happen(alloc, placed)?;
-    }
-    Ok(())
-}
-
-// The same, where the journal could be read on behind the first event. Else it says why not.
-fn rebuild_behind<S: Alter, R: BufRead>(
+// Has each further event happen again, as far as the journal can be read.
+fn replay_as_read<S: Alter, R: BufRead>(
     alloc: Global,
     replay: &mut Replay<S, R>,
     halt: Option<Refused>,
 ) -> Result<(), Refused>
     requires { halt ≡ None → replay.old.events.fault ≡ None }
     ensures built { (bytes : Option (List ℕ)) (first : ℕ × TheEvent)
-        → IsFirstRead (start bytes) (place R.remaining replay.old.events) first halt
-        → IsFounding first.1
-        → (HasCleanDisk (state S.Store replay.old.office)
-        → Stands (meaning_over S.Store) (first.1 ∷ []) replay.old.office)
-        → BuildsOn bytes (meaning_over S.Store) replay.new.office replay.old.count replay.new.count
-        (place R.remaining replay.new.events).seal
-        (place R.remaining replay.new.events).taken result }
+        → HasBegun (meaning_over S.Store) bytes replay.old.office
+        (place R.remaining replay.old.events) first halt
+        → replay.old.count ≡ 1
+        → BuildsOn bytes (meaning_over S.Store) replay.new.office replay.new.count
+        (place R.remaining replay.new.events) result }
     ensures clean { HasCleanDisk (state S.Store replay.new.office)
         → HasCleanDisk (state S.Store replay.old.office) }
 {
-    match halt {
-        None => rebuild_rest(alloc, replay),
-        Some(refused) => Err(refused),
+    match replay_rest(alloc, replay, halt) {
+        Ok(()) => Ok(()),
+        Err(refused) => Err(replay_last(alloc, replay, refused)),
     }
 }
 
@@ -159,11 +107,10 @@ pub fn rebuild_as_read<S: Alter, R: BufRead + Drop>(
         → HasCleanDisk (state S.Store conn)) }
     ensures idle { IfErr result (λ refusal. IsIdle (state S.Store refusal.1)) }
 {
-    let (mut replay, first, halt) = Replay::begin_as_read(alloc, conn, journal)?;
+    let (mut replay, first, halt) = Replay::begin(alloc, conn, journal, 0)?;
     drop(first);
-    let before = replay.count();
-    let rebuilt = rebuild_behind(alloc, &mut replay, halt);
-    let events = replay.count().saturating_sub(before).saturating_add(1);
+    let rebuilt = replay_as_read(alloc, &mut replay, halt);
+    let events = replay.count();
     let seal = replay.seal();
     let lines = replay.taken();
     let office = replay.into_office();

@@ -10,10 +10,10 @@ ghost use Rattle.office_policy.specs.Handled.{Stands, Survives};
 ghost use Rattle.office_policy.specs.Happened.{event_meant};
 ghost use Rattle.office_policy.specs.Lawful.{IsFounding};
 ghost use Rattle.journal.specs.SealsAt.{Finds, IsSeen};
-ghost use Rattle.journal.specs.Told.{held_at, place, placed_meant, start, without_held};
+ghost use Rattle.journal.specs.Told.{held_at, place, placed_meant, without_held};
 ghost use Rattle.office_desk.specs.Meant.{meaning_over};
-ghost use Rattle.journal_office.specs.Rebuilt.{HasReplayed, IsRefused, line_behind};
-ghost use Rattle.journal_office.specs.Steps.{CountsNext, Happens, IsFirst, IsFirstRead, IsNext};
+ghost use Rattle.journal_office.specs.Rebuilt.{line_behind};
+ghost use Rattle.journal_office.specs.Steps.{CountsNext, Happens, HasBegun, IsNext};
 ghost use Rattle.journal_office.specs.Steps.{IsNoFounding, IsUnbegun, ReadsFirst};
 ghost use Rattle.journal_office.specs.declared.refused.Why.TheVariants.{Unread};
 
@@ -65,33 +65,19 @@ fn next<R: BufRead>(alloc: Global, events: &mut Events<R>) -> Result<Option<Plac
     }
 }
 
-// The first event that stands.
-fn first<R: BufRead>(alloc: Global, events: &mut Events<R>) -> Result<Placed, Refused>
-    requires { events.old.fault ≡ None }
-    ensures first { IsFirst (place R.remaining events.old) (place R.remaining events.new) result }
-    ensures seen { (bytes : Option (List ℕ))
-        → IsSeen bytes (place R.remaining events.old) events.old.at → IfOk result
-        (λ _. IsSeen bytes (place R.remaining events.new) events.new.at) }
-    ensures line { events.new.at.line ≡ events.old.at.line }
-    ensures fault { IfOk result (λ _. events.new.fault ≡ None) }
-{
-    match next(alloc, events)? {
-        Some(placed) => Ok(placed),
-        None => Err(Refused {
-            line: 0,
-            why: Why::NotFounded,
-        }),
-    }
-}
-
 // The first event that stands; or the one that is held back where the journal can't be read on, with
 // why.
-fn first_read<R: BufRead>(
+fn first<R: BufRead>(
     alloc: Global,
     events: &mut Events<R>,
 ) -> Result<(Placed, Option<Refused>), Refused>
     requires { events.old.fault ≡ None }
     ensures first { ReadsFirst (place R.remaining events.old) (place R.remaining events.new) result }
+    ensures seen { (bytes : Option (List ℕ))
+        → IsSeen bytes (place R.remaining events.old) events.old.at → IfOk result
+        (λ found. found.1 ≡ None → IsSeen bytes (place R.remaining events.new) events.new.at) }
+    ensures line { IfOk result (λ found. found.1 ≡ None
+        → events.new.at.line ≡ events.old.at.line) }
     ensures fault { IfOk result (λ found. found.1 ≡ None → events.new.fault ≡ None) }
 {
     match next(alloc, events) {
@@ -172,7 +158,8 @@ fn found_by<S: Alter, R: BufRead + Drop>(
 
 impl<S: Alter, R: BufRead + Drop> Replay<S, R> {
     /// Founds an office over a connection to an empty store, by the first event of a journal; with
-    /// that event. Of the journal the seal of the first so many lines is kept.
+    /// that event. Where the journal can't be read on before one stands, it is the one that is held
+    /// back, with why. Of the journal the seal of the first so many lines is kept.
     ///
     /// # Errors
     ///
@@ -183,51 +170,17 @@ impl<S: Alter, R: BufRead + Drop> Replay<S, R> {
         conn: Connection<S>,
         journal: R,
         line: u64,
-    ) -> Result<(Replay<S, R>, Placed), (Refused, Connection<S>)>
-        requires { IsIdle (state S.Store conn) }
-        ensures begun { IfOk result (λ begun.
-            HasReplayed (R.remaining journal) (meaning_over S.Store)
-            (place R.remaining begun.0.events) (placed_meant begun.1 ∷ []) begun.0.office) }
-        ensures founding { IfOk result (λ begun. IsFounding (event_meant begun.1.event)) }
-        ensures fault { IfOk result (λ begun. begun.0.events.fault ≡ None) }
-        ensures count { IfOk result (λ begun. begun.0.count ≡ 1) }
-        ensures seen { IfOk result (λ begun. IsSeen (R.remaining journal)
-            (place R.remaining begun.0.events) begun.0.events.at) }
-        ensures line { IfOk result (λ begun. begun.0.events.at.line ≡ line) }
-        ensures refused { IfErr result (λ refusal. IsRefused (R.remaining journal)
-            S.Store conn refusal.1 refusal.0.line refusal.0.why) }
-        ensures empty { OnOk result ((state S.Store conn).now.schema ≡ no_schema) }
-        ensures idle { IfErr result (λ refusal. IsIdle (state S.Store refusal.1)) }
-    {
-        let mut events = Events::new(alloc, journal, line);
-        let placed = match first(alloc, &mut events) {
-            Ok(placed) => placed,
-            Err(refused) => return Err((refused, conn)),
-        };
-        match found_by(conn, events, placed) {
-            Ok(begun) => Ok(begun),
-            Err((refused, conn)) => Err((refused, conn)),
-        }
-    }
-
-    /// As `begin`. But where the journal can't be read on before an event of it stands, the one that is
-    /// held back founds the office, where it can; why it can't be read on is with it then.
-    ///
-    /// # Errors
-    ///
-    /// Those of `begin`.
-    pub fn begin_as_read(
-        alloc: Global,
-        conn: Connection<S>,
-        journal: R,
     ) -> Result<(Replay<S, R>, Placed, Option<Refused>), (Refused, Connection<S>)>
         requires { IsIdle (state S.Store conn) }
-        ensures told { IfOk result (λ begun. IsFirstRead (start (R.remaining journal))
+        ensures begun { IfOk result (λ begun. HasBegun (meaning_over S.Store)
+            (R.remaining journal) begun.0.office
             (place R.remaining begun.0.events) (placed_meant begun.1) begun.2) }
         ensures founding { IfOk result (λ begun. IsFounding (event_meant begun.1.event)) }
-        ensures stands { IfOk result (λ begun. HasCleanDisk (state S.Store begun.0.office)
-            → Stands (meaning_over S.Store) (event_meant begun.1.event ∷ []) begun.0.office) }
         ensures fault { IfOk result (λ begun. begun.2 ≡ None → begun.0.events.fault ≡ None) }
+        ensures count { IfOk result (λ begun. begun.0.count ≡ 1) }
+        ensures seen { IfOk result (λ begun. begun.2 ≡ None → IsSeen (R.remaining journal)
+            (place R.remaining begun.0.events) begun.0.events.at) }
+        ensures line { IfOk result (λ begun. begun.2 ≡ None → begun.0.events.at.line ≡ line) }
         ensures unbegun { IfErr result (λ refusal. IsUnbegun (R.remaining journal)
             S.Store conn refusal.1 refusal.0.line refusal.0.why) }
         ensures empty { OnOk result ((state S.Store conn).now.schema ≡ no_schema) }
@@ -235,8 +188,8 @@ impl<S: Alter, R: BufRead + Drop> Replay<S, R> {
             → HasCleanDisk (state S.Store conn)) }
         ensures idle { IfErr result (λ refusal. IsIdle (state S.Store refusal.1)) }
     {
-        let mut events = Events::new(alloc, journal, 0);
-        let (placed, halt) = match first_read(alloc, &mut events) {
+        let mut events = Events::new(alloc, journal, line);
+        let (placed, halt) = match first(alloc, &mut events) {
             Ok(found) => found,
             Err(refused) => return Err((refused, conn)),
         };

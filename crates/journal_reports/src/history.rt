@@ -382,7 +382,7 @@ pub fn write_history<S: Alter, R: BufRead + Drop, W: Write>(
     ensures idle { IfOk result (λ left. IsIdle (state S.Store left)) }
     ensures idle_on_error { IfErr result (λ stopped. IsIdle (state S.Store stopped.1)) }
 {
-    let (mut replay, first, halt) = match Replay::begin_as_read(alloc, conn, journal) {
+    let (mut replay, first, halt) = match Replay::begin(alloc, conn, journal, 0) {
         Ok(begun) => begun,
         Err((refused, conn)) => return Err((Unwritten::Refused(refused), conn)),
     };

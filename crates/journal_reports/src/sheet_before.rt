@@ -11,6 +11,7 @@ ghost use Rattle.office_policy.specs.Revisions.{issues};
 ghost use Rattle.office_desk.specs.Meant.{meaning_over};
 ghost use Rattle.journal.specs.Told.{GoesOn, Place, place, placed_meant};
 ghost use Rattle.journal_office.specs.Rebuilt.{HasReplayed};
+ghost use Rattle.journal_office.specs.Steps.{HasBegun};
 ghost use Rattle.journal_reports.specs.Evidence.{IsEvidence, IsNoEvidence, ending_of};
 ghost use Rattle.journal_reports.specs.Evidence.{evidence_of, is_wanted, issue_text, none_of};
 ghost use Rattle.journal_reports.specs.Lines.{line_of};
@@ -21,7 +22,7 @@ use crate::fault::NoEvidence;
 use crate::history::look_up;
 use crate::line::text;
 use journal::Placed;
-use journal_office::Replay;
+use journal_office::{Refused, Replay};
 use office_desk::Office;
 use office_policy::{Deed, Event};
 use review_policy::{ProfileName, RevisionAct, Text};
@@ -241,22 +242,25 @@ fn search<S: Alter, R: BufRead>(
 }
 
 // The evidence of the event, where only the founding has happened again: before that no revision is
-// there.
+// there. Where the journal can't be read on behind that, it says why.
 fn find<S: Alter, R: BufRead>(
     alloc: Global,
     replay: &mut Replay<S, R>,
     first: &Placed,
+    halt: Option<Refused>,
     name: &ProfileName,
     number: u32,
     line: Option<u64>,
 ) -> Result<Text, NoEvidence>
-    requires { replay.old.events.fault ≡ None }
-    ensures { (bytes : Option (List ℕ))
-        → HasReplayed bytes (meaning_over S.Store)
-        (place R.remaining replay.old.events) (placed_meant first.now ∷ []) replay.old.office
+    requires { halt ≡ None → replay.old.events.fault ≡ None }
+    ensures { (bytes : Option (List ℕ)) → HasBegun (meaning_over S.Store) bytes replay.old.office
+        (place R.remaining replay.old.events) (placed_meant first.now) halt
         → Searches bytes name.now number line (meaning_over S.Store)
         replay.new.office result }
 {
+    if let Some(refused) = halt {
+        return Err(NoEvidence::Refused(refused));
+    }
     if is_wanted(first, name, number, line) {
         Err(NoEvidence::NoRevision)
     } else {
@@ -291,11 +295,11 @@ pub fn evidence<S: Alter, R: BufRead + Drop>(
     ensures idle { IfOk result (λ found. IsIdle (state S.Store found.1)) }
     ensures idle_on_error { IfErr result (λ none. IsIdle (state S.Store none.1)) }
 {
-    let (mut replay, first) = match Replay::begin(alloc, conn, journal, 0) {
+    let (mut replay, first, halt) = match Replay::begin(alloc, conn, journal, 0) {
         Ok(begun) => begun,
         Err((refused, conn)) => return Err((NoEvidence::Refused(refused), conn)),
     };
-    let found = find(alloc, &mut replay, &first, name, number, line);
+    let found = find(alloc, &mut replay, &first, halt, name, number, line);
     drop(first);
     let conn = replay.into_office().into_connection();
     match found {

@@ -1,4 +1,5 @@
-use Rattle.std.proofs.Common.{rules, ◌≡◌, Err, ◌∙◌, ◌+◌, ◌-◌, ◌^◌, ℕ, List, min, ap, ap₂, inl, inr, subst, sym}
+use Rattle.std.proofs.Common.{rules, ◌≡◌, ◌<◌, Err, ◌∙◌, ◌-◌, ◌^◌, ℕ, List, min, arith, inl, inr, subst, sym}
+use Rattle.std.proofs.Math.Nat.{min-eq_left}
 use Rattle.sqlite.specs.Held.{state}
 use Rattle.sqlite.specs.State.{HasCleanDisk}
 use Rattle.office_desk.specs.Meant.{meaning_over}
@@ -16,16 +17,16 @@ pub returns-in-Ok-clause-built : goal.returns-in-Ok-clause-built
 returns-in-Ok-clause-built g c =
     let bytes = g.R.Read.remaining c.args.journal in
     let m = meaning_over g.S.Store in
-    let count = (c.rebuild_behind-rebuilt.new.replay.count - c.in_ok-replay.replay.count) + 1 in
-    let end = place g.R.Read.remaining c.rebuild_behind-rebuilt.new.replay.events in
-    let built = c.in-Ok.ensures.built bytes (placed_meant c.in_ok-replay.first) c.in_ok-replay.ensures.told c.in_ok-replay.ensures.founding c.in_ok-replay.ensures.stands in
+    let count = c.replay_as_read-rebuilt.new.replay.count in
+    let end = place g.R.Read.remaining c.replay_as_read-rebuilt.new.replay.events in
+    let built = c.in-Ok.ensures.built bytes (placed_meant c.in_ok-replay.first) c.in_ok-replay.ensures.begun c.in_ok-replay.ensures.count in
     record {
-      count = count;
-      rebuilt = subst (λ (s : List ℕ). IsRebuilt bytes m count s c.taken-lines.result c.into_office-office.result) (sym c.seal-seal.ensures)
+      count = c.count-events.result;
+      rebuilt = subst (λ (n : ℕ). IsRebuilt bytes m n c.seal-seal.result c.taken-lines.result c.into_office-office.result) (sym c.count-events.ensures)
+          (subst (λ (s : List ℕ). IsRebuilt bytes m count s c.taken-lines.result c.into_office-office.result) (sym c.seal-seal.ensures)
           (subst (λ (n : ℕ). IsRebuilt bytes m count end.seal n c.into_office-office.result) (sym c.taken-lines.ensures)
-          (subst (λ o. IsRebuilt bytes m count end.seal end.taken o) (sym c.into_office-office.ensures) built));
-      shown = c.saturating_add-events.ensures
-          ∙ ap (λ (n : ℕ). min (n + 1) (2 ^ 64 - 1)) (c.saturating_sub.ensures ∙ ap₂ (λ (a b : ℕ). a - b) c.count.ensures c.count-before.ensures);
+          (subst (λ o. IsRebuilt bytes m count end.seal end.taken o) (sym c.into_office-office.ensures) built)));
+      shown = let small : c.count-events.result < 2 ^ 64 = search rules in sym (min-eq_left (omega (arith, small)));
     }
 
 pub returns-in-Err-clause-unbuilt : goal.returns-in-Err-clause-unbuilt
@@ -36,7 +37,7 @@ returns-in-Err-clause-unbuilt g c =
     inr (
       c.in_ok-replay.ensures.empty,
       subst (λ left. HasCleanDisk (state g.S.Store left) → HasCleanDisk (state g.S.Store c.args.conn)) (sym (c.into_connection.ensures.connection ∙ c.into_office-office.ensures))
-          (λ clean. c.in_ok-replay.ensures.clean (c.rebuild_behind-rebuilt.ensures.clean clean)),
+          (λ clean. c.in_ok-replay.ensures.clean (c.replay_as_read-rebuilt.ensures.clean clean)),
       subst (λ left. IsHalted bytes m left refused.line refused.why) (sym (c.into_connection.ensures.connection ∙ c.into_office-office.ensures))
-          (c.in-Err.ensures.built bytes (placed_meant c.in_ok-replay.first) c.in_ok-replay.ensures.told c.in_ok-replay.ensures.founding c.in_ok-replay.ensures.stands),
+          (c.in-Err.ensures.built bytes (placed_meant c.in_ok-replay.first) c.in_ok-replay.ensures.begun c.in_ok-replay.ensures.count),
     )

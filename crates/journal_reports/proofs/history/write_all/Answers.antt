@@ -29,7 +29,7 @@ returns-in-Some g c = λ bytes first stands.
     let placed = placed_meant c.args.first in
     first_cut (meaning_over g.S.Store) bytes c.args.filter.now from mid (g.W.Write.contents c.write_first.new.output.inner) here placed c.args.replay.now.office c.requires.founding stands
     (subst (λ n. Appends from mid (struck_lines c.args.filter.now 0 (n - 0))) c.saturating_sub.ensures c.in_ok-write_struck.ensures)
-    c.in-Some.refused.line c.in-Some.refused.why (subst (λ halt. IsFirstRead (start bytes) here placed halt) c.in-Some.is first) c.in_ok-write_first.ensures
+    c.in-Some.refused.line c.in-Some.refused.why (subst (λ halt. IsFirstRead (start bytes) here placed halt) c.in-Some.is first).0 c.in_ok-write_first.ensures
 
 pub returns-in_err-write_first : goal.returns-in_err-write_first
 returns-in_err-write_first g c =

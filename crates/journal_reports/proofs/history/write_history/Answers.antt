@@ -11,7 +11,7 @@ pub returns-in-Ok-written-clause-written : goal.returns-in-Ok-written-clause-wri
 returns-in-Ok-written-clause-written g c =
     let bytes = g.R.Read.remaining c.args.journal in
     subst (λ left. IsWritten bytes c.args.filter.now (g.W.Write.contents c.args.output.now.inner) (g.W.Write.contents c.write_all-written.new.output.inner) (meaning_over g.S.Store) left)
-    (sym (c.into_connection-conn.ensures.connection ∙ c.into_office.ensures)) (c.in-Ok-written.ensures bytes c.in-Ok.ensures.told c.in-Ok.ensures.stands)
+    (sym (c.into_connection-conn.ensures.connection ∙ c.into_office.ensures)) (c.in-Ok-written.ensures bytes c.in-Ok.ensures.begun.told c.in-Ok.ensures.begun.stands)
 
 pub returns-in-Err-written-clause-unwritten : goal.returns-in-Err-written-clause-unwritten
 returns-in-Err-written-clause-unwritten g c =
@@ -20,4 +20,4 @@ returns-in-Err-written-clause-unwritten g c =
     let new = g.W.Write.contents c.write_all-written.new.output.inner in
     subst (λ left. IsUnwritten bytes c.args.filter.now old new g.S.Store c.args.conn left c.in-Err-written.why)
     (sym (c.into_connection-conn.ensures.connection ∙ c.into_office.ensures))
-    (unwritten g.S.Store bytes c.args.filter.now old new c.args.conn _ c.in-Err-written.why (c.in-Err-written.ensures bytes c.in-Ok.ensures.told c.in-Ok.ensures.stands))
+    (unwritten g.S.Store bytes c.args.filter.now old new c.args.conn _ c.in-Err-written.why (c.in-Err-written.ensures bytes c.in-Ok.ensures.begun.told c.in-Ok.ensures.begun.stands))

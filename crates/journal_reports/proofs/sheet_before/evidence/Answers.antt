@@ -1,8 +1,13 @@
 use Rattle.std.proofs.Common.{◌∙◌, sym, subst}
 use Rattle.office_desk.specs.Meant.{meaning_over}
+use Rattle.journal_office.proofs.Refusals.{unbegun_refused}
 use Rattle.journal_reports.specs.Evidence.{IsEvidence, IsNoEvidence}
 use Rattle.journal_reports.proofs.Searching.{none_found}
 use Rattle.journal_reports.proofs.sheet_before.evidence.Goals as goal
+
+pub returns-in-Err-clause-none : goal.returns-in-Err-clause-none
+returns-in-Err-clause-none g c =
+    unbegun_refused g.S.Store (g.R.Read.remaining c.args.journal) c.args.conn c.in-Err.conn c.in-Err.refused.line c.in-Err.refused.why c.in-Err.ensures.unbegun
 
 pub returns-in-Ok-found-clause-evidence : goal.returns-in-Ok-found-clause-evidence
 returns-in-Ok-found-clause-evidence g c =
