@@ -6,7 +6,7 @@ ghost use Rattle.sqlite.specs.Held.{state};
 ghost use Rattle.office_store.specs.Shown.{IsIdle};
 ghost use Rattle.office_tables.specs.Tables.{is_profile};
 ghost use Rattle.office_policy.specs.Happened.{event_meant};
-ghost use Rattle.office_policy.specs.History.{Event as TheEvent};
+ghost use Rattle.office_policy.specs.History.{Event as TheEvent, did};
 ghost use Rattle.office_policy.specs.Revisions.{issues};
 ghost use Rattle.office_desk.specs.Meant.{meaning_over};
 ghost use Rattle.journal.specs.Told.{GoesOn, Place, place, placed_meant};
