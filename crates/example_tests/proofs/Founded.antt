@@ -27,7 +27,7 @@ enrols_allowed = record {
   ask = asks.Enrol (codes "ann") (codes "blue") 2 (replicate 32 1);
   forms = enrol_forms;
   number = tt;
-  reply = replies.Enrolled;
+  reply = replies.Nothing;
   allowed = refl;
 }
 
