@@ -8,8 +8,9 @@ use std::os::unix::fs::MetadataExt;
 use std::path::PathBuf;
 use std::{fs, io};
 
-/// How a regular file is at a moment: which it is, how long, and when it was last written.
-#[derive(Clone, Copy, Debug, PartialEq, Eq)]
+/// How a regular file is at a moment: which it is, how long, and when it was last written. It can't be
+/// copied: two are of two looks.
+#[derive(Debug, Drop, PartialEq, Eq)]
 pub struct Stamp {
     file: FileId,
     len: u64,

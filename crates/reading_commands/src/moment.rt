@@ -9,8 +9,8 @@ use std::io::Write;
 use streams::Counted;
 
 /// How the files of an office and of a journal are at a moment; nothing of one that isn't there, or
-/// isn't regular.
-#[derive(Clone, Copy, Debug, PartialEq, Eq)]
+/// isn't regular. It can't be copied: two are of two looks.
+#[derive(Debug, Drop, PartialEq, Eq)]
 pub struct Moment {
     database: Option<Stamp>,
     log: Option<Stamp>,
