@@ -32,16 +32,21 @@ fn read_on(alloc: Global, events: &mut Events<&[u8]>) -> Result<(u64, Option<Pla
     Ok((1_000_000, last))
 }
 
-// The same, as the last event's line with its number, and the digits of the seal.
+// The text of an event, behind the number of its line.
+fn shown(alloc: Global, placed: Option<Placed>) -> Result<String, Fail> {
+    let Some(Placed { line, event }) = placed else {
+        return Err(Fail::from("no event"));
+    };
+    let said = text(alloc, &Line::Event(event))?;
+    Ok(format!(in alloc; "{line} {said}")?)
+}
+
+// Reads a journal to its end: how many events stand, the last one, and the digits of the seal.
 fn told(alloc: Global, journal: &str) -> Result<(u64, String, String), Fail> {
     let mut events = Events::new(alloc, journal.as_bytes(), 0);
     let (count, last) = read_on(alloc, &mut events)?;
     let digits = String::from_utf8_lossy(alloc, &events.seal())?;
-    let Some(Placed { line, event }) = last else {
-        return Err(Fail::from("no event"));
-    };
-    let said = text(alloc, &Line::Event(event))?;
-    Ok((count, format!(in alloc; "{line} {said}")?, digits))
+    Ok((count, shown(alloc, last)?, digits))
 }
 
 #[test]
