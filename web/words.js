@@ -133,11 +133,11 @@ export const DOCUMENT_FAULTS = [
  */
 export const STORE_FAULTS = [
   ['memory', 'memory was refused before the request was handled or while it was', 'ask again; give the program more'],
-  ['disk', 'the disk below the tables or the journal failed, or had failed and shut them; or SQLite refused what was to be written',
+  ['disk', 'the disk below the tables or the journal failed, or is shut since it did; or SQLite refused the write',
     'look after the disk, and start `serve` anew'],
   ['full', 'there was no room for what was to be written, or a value was too big for a table', 'make room, and ask again'],
-  ['not-an-office', "the tables are no office's: another program changed them", 'put a copy back, by `deploy/restore` '
-    + '([operate.md](operate.md)): a file that is put beside an old `team.db-wal` is corrupt, or undone'],
+  ['not-an-office', "the tables are no office's: another program changed them",
+    'put a copy back by `deploy/restore` ([operate.md](operate.md#copies-and-reports))'],
 ];
 
 /**
