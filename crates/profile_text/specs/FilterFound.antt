@@ -1,6 +1,5 @@
 -- What the members of the objects of a filter give, one after another.
 use Rattle.std.specs.Prelude.{ℕ, List, if◌then◌else◌, Option, Some, option_map, bytes_eq, codes}
-use Rattle.std.specs.Prelude.{map, string_bytes}
 use Rattle.std.specs.Option.{option_map_or}
 use Rattle.serde_json.specs.Data.{Data, Members}
 use Rattle.seccomp_doc.specs.declared.action.ActionWord.{ActionWord}
@@ -45,7 +44,7 @@ entry_seen found = record {
   word = found.word;
   args = found.args.items;
   errno = found.errno;
-  names = option_map (λ names. map string_bytes names.items) found.names;
+  names = option_map (λ names. names.items) found.names;
 }
 
 abbrev pub entry_found : Members → EntryMembers

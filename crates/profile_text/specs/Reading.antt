@@ -11,6 +11,7 @@ use Rattle.seccomp_doc.specs.Filter.{FilterValue}
 use Rattle.seccomp_doc.specs.Parts.{FilterPartsValue, filter_of}
 use Rattle.seccomp_doc.specs.Checks.{fault_of}
 use Rattle.profile_text.specs.declared.document.Document.{Document}
+use Rattle.profile_text.specs.declared.document.TheConstants.{MOST_BYTES}
 use Rattle.profile_text.specs.declared.fault.DocFault.{DocFault}
 use Rattle.profile_text.specs.declared.fault.DocFault.TheVariants.{TooLong, NotJson, Caps, Filter}
 use Rattle.profile_text.specs.declared.fault.DocFault.TheVariants.{NoMemory, TextTooLong}
@@ -23,7 +24,7 @@ use Rattle.no_memory.specs.Witness.{witness}
 
 -- how many bytes a document and a canonical text may have
 abbrev pub most_bytes : ℕ
-most_bytes = 262144
+most_bytes = MOST_BYTES
 
 infixl 10 ◌>>=◌
 -- the first fault stands in place of what comes after it

@@ -1,6 +1,6 @@
 //! The reader of entries.
 
-ghost use Rattle.std.specs.Prelude.{codes, map, string_bytes};
+ghost use Rattle.std.specs.Prelude.{codes};
 ghost use Rattle.json_tree.specs.View.{items_view, members_view, view};
 ghost use Rattle.profile_text.specs.FilterParts.{entry_at, entry_in, items_as, list_as, string_in};
 ghost use Rattle.profile_text.specs.FilterShape.{entry_faults, entry_rows, text_faults};
@@ -15,7 +15,7 @@ use crate::members::{FromMembers, with_members};
 use crate::place::Place;
 use crate::value::{action_of, optional_number_of, text_of};
 use json_tree::Tree;
-use seccomp_doc::{ActionWord, ArgParts, EntryParts};
+use seccomp_doc::{ActionWord, ArgParts, EntryParts, Text};
 use smallvec::SmallVec;
 use std::alloc::Global;
 
@@ -25,8 +25,8 @@ fn names_in(
     place: Place,
     name: &str,
     values: &[Tree<'_>],
-) -> Result<Vec<String>, DocFault>
-    ensures { GivesAs (λ names. map string_bytes names.items) result (unless_faulty
+) -> Result<Vec<Text>, DocFault>
+    ensures { GivesAs (λ names. names.items) result (unless_faulty
         (items_faults text_faults (below (path_of place) name.now) 0 (items_view values.now))
         (items_as string_in (items_view values.now))) }
 {
@@ -47,8 +47,8 @@ fn names_of(
     place: Place,
     name: &str,
     value: &Tree<'_>,
-) -> Result<Vec<String>, DocFault>
-    ensures { GivesAs (λ names. map string_bytes names.items) result (unless_faulty
+) -> Result<Vec<Text>, DocFault>
+    ensures { GivesAs (λ names. names.items) result (unless_faulty
         (list_faults text_faults (below (path_of place) name.now) (view value.now))
         (list_as string_in (view value.now))) }
 {
@@ -64,7 +64,7 @@ pub(crate) struct FoundEntry {
     word: Option<ActionWord>,
     args: SmallVec<ArgParts, 1>,
     errno: Option<u64>,
-    names: Option<Vec<String>>,
+    names: Option<Vec<Text>>,
 }
 
 impl FromMembers for FoundEntry {

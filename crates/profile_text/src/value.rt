@@ -1,6 +1,6 @@
 //! The readers of numbers, names and texts.
 
-ghost use Rattle.std.specs.Prelude.{◌≡◌, decimal, string_bytes};
+ghost use Rattle.std.specs.Prelude.{◌≡◌, decimal};
 ghost use Rattle.serde_json.specs.Data.{string};
 ghost use Rattle.json_tree.specs.View.{number_view, view};
 ghost use Rattle.profile_text.specs.FilterParts.{action_in, number_in, op_in, string_in, u64_of};
@@ -8,13 +8,13 @@ ghost use Rattle.profile_text.specs.FilterParts.{whole_number};
 ghost use Rattle.profile_text.specs.FilterShape.{action_faults, number_faults, op_faults};
 ghost use Rattle.profile_text.specs.FilterShape.{text_faults};
 ghost use Rattle.profile_text.specs.Place.{path_of};
-ghost use Rattle.profile_text.specs.Reading.{Gives, GivesAs, unless_faulty};
+ghost use Rattle.profile_text.specs.Reading.{Gives, unless_faulty};
 ghost use Rattle.profile_text.specs.Shape.{below, optional_faults};
 
 use crate::fault::{DocFault, Path};
 use crate::place::Place;
 use json_tree::{Number, Tree};
-use seccomp_doc::{ActionWord, Op};
+use seccomp_doc::{ActionWord, Op, Text};
 use std::alloc::Global;
 
 // The number, where it is a whole number from 0 to 2^64 - 1.
@@ -127,13 +127,13 @@ pub(crate) fn text_of(
     name: &str,
     position: usize,
     value: &Tree<'_>,
-) -> Result<String, DocFault>
-    ensures { GivesAs string_bytes result (unless_faulty
+) -> Result<Text, DocFault>
+    ensures { Gives result (unless_faulty
         (text_faults (below (below (path_of place) name.now) (decimal position)) (view value.now))
         (string_in (view value.now))) }
 {
     match value {
-        Tree::String(text) => Ok(String::from_str(alloc, text)?),
+        Tree::String(text) => Ok(Text::new(alloc, text)?),
         _ => Err(DocFault::WrongShape(Path::of_item(alloc, place, name, position)?)),
     }
 }

@@ -1,7 +1,6 @@
 -- What follows where no check of an entry fails.
 use Rattle.std.proofs.Common.{◌≡◌, ◌∙◌, ap, refl, ℕ, ◌<◌, List, [], ◌∷◌, Bool, true, false, not, ◌||◌, map, length, All, None, Some, option_map, cond}
 use Rattle.std.specs.List.{list_any}
-use Rattle.std.proofs.lemmas.List.{length-map}
 use Rattle.std.proofs.lemmas.List.Elements.{All-nil, All-cons}
 use Rattle.seccomp_doc.specs.declared.action.Action.{Action}
 use Rattle.seccomp_doc.specs.declared.compare.Compare.{Compare}
@@ -38,13 +37,13 @@ second_false false true x y e = cc
 second_false false false x y e = refl
 
 -- the entry that the checked names, action and comparisons make
-pub lawful_entry : {X : Type 0} (text_of : X → List ℕ) (texts : List X) (names : List (List ℕ)) (action : Action) (parts : List ArgParts) (args : List Compare) →
-    0 < length texts → (names ≡ map text_of texts) × (list_any is_no_call_name (map text_of texts) ≡ false) → IsLawfulAction action →
+pub lawful_entry : (texts names : List (List ℕ)) (action : Action) (parts : List ArgParts) (args : List Compare) →
+    0 < length texts → (names ≡ texts) × (list_any is_no_call_name texts ≡ false) → IsLawfulAction action →
     (args ≡ map compare_of parts) × (first_fault (arg_checks parts) ≡ None) × All IsLawfulCompare args →
     IsLawfulEntry (record { names = names; action = action; args = args })
-lawful_entry text_of texts names action parts args some good small checked = record {
-  named = rw (good.0, length-map) some;
-  names = rw good.0 (all_pass is_call_name (map text_of texts) good.1);
+lawful_entry texts names action parts args some good small checked = record {
+  named = rw good.0 some;
+  names = rw good.0 (all_pass is_call_name texts good.1);
   action = small;
   args = checked.2;
   once = rw checked.0 (ap has_repeat (indexes_kept parts) ∙ second_false _ _ _ _ checked.1);

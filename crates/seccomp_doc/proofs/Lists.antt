@@ -1,5 +1,5 @@
 -- Lists, and what an iterator has given.
-use Rattle.std.proofs.Common.{◌≡◌, ◌∙◌, ap, refl, List, [], ◌∷◌, ◌++◌, Bool, true, false, ◌||◌, map}
+use Rattle.std.proofs.Common.{◌≡◌, ◌∙◌, ap, refl, List, [], ◌∷◌, ◌++◌, Bool, true, false, ◌||◌}
 use Rattle.std.specs.Iterator.{Yields}
 use Rattle.std.specs.List.{list_any}
 use Rattle.std.specs.Vec.Iter.{into_iter_items, into_iter_steps}
@@ -21,6 +21,6 @@ list_any_here p [] y zs h = ap (λ b. b || list_any p zs) h
 list_any_here p (x ∷ xs) y zs h = or_right (p x) _ (list_any_here p xs y zs h)
 
 -- the same in a list that was mapped
-pub list_any_mapped : {X Y : Type 0} (f : X → Y) (p : Y → Bool) (xs : List X) (y : X) (zs : List X) → p (f y) ≡ true → list_any p (map f (xs ++ y ∷ zs)) ≡ true
-list_any_mapped f p [] y zs h = ap (λ b. b || list_any p (map f zs)) h
-list_any_mapped f p (x ∷ xs) y zs h = or_right (p (f x)) _ (list_any_mapped f p xs y zs h)
+pub list_any_among : {X : Type 0} (p : X → Bool) (xs : List X) (y : X) (zs : List X) → p y ≡ true → list_any p (xs ++ y ∷ zs) ≡ true
+list_any_among p [] y zs h = ap (λ b. b || list_any p zs) h
+list_any_among p (x ∷ xs) y zs h = or_right (p x) _ (list_any_among p xs y zs h)

@@ -8,3 +8,4 @@ pub mod Parts
 pub mod Checks
 pub mod Names
 pub mod FaultText
+pub mod Kept

@@ -1,7 +1,7 @@
 //! Entries of a filter.
 
 ghost use Rattle.std.specs.Prelude.{◌≡◌, ◌≢◌, ◌<◌, ◌==◌, nat_lt, true, false, Some, None, IfOk};
-ghost use Rattle.std.specs.Prelude.{IfErr, All, map, string_bytes};
+ghost use Rattle.std.specs.Prelude.{IfErr, All, map};
 ghost use Rattle.std.specs.List.{list_any};
 ghost use Rattle.seccomp_doc.specs.Meaning.{admits_words, has_name, is_match};
 ghost use Rattle.seccomp_doc.specs.Lawful.{IsLawfulCompare, IsLawfulEntry, has_repeat};
@@ -15,6 +15,7 @@ use crate::call_name::CallName;
 use crate::compare::Compare;
 use crate::fault::FilterFault;
 use crate::parts::{ArgParts, EntryParts};
+use crate::short::Text;
 use smallvec::SmallVec;
 use std::alloc::Global;
 use std::marker::Model;
@@ -120,16 +121,16 @@ fn all_admit(args: &[Compare], words: &[u64; 6]) -> bool
 }
 
 // The names, where each is that of a call.
-fn call_names(alloc: Global, texts: Vec<String>) -> Result<Vec<CallName>, FilterFault>
-    ensures ok { IfOk result (λ names. (names.items ≡ map string_bytes texts.items)
-        × (list_any is_no_call_name (map string_bytes texts.items) ≡ false)) }
+fn call_names(alloc: Global, texts: Vec<Text>) -> Result<Vec<CallName>, FilterFault>
+    ensures ok { IfOk result (λ names. (names.items ≡ texts.items)
+        × (list_any is_no_call_name texts.items ≡ false)) }
     ensures err { IfErr result (λ e. e ≢ FilterFault.NoMemory witness
         → (e ≡ FilterFault.BadCallName)
-        × (list_any is_no_call_name (map string_bytes texts.items) ≡ true)) }
+        × (list_any is_no_call_name texts.items ≡ true)) }
 {
     let mut names = Vec::with_capacity(alloc, texts.len())?;
     for text in texts {
-        let Some(name) = CallName::from_string(text) else {
+        let Some(name) = CallName::from_text(text) else {
             return Err(FilterFault::BadCallName);
         };
         names

@@ -13,6 +13,7 @@ pub mod flag;
 pub mod laws;
 mod names;
 pub mod parts;
+pub mod short;
 pub mod text;
 pub mod word;
 
@@ -25,5 +26,6 @@ pub use fault::FilterFault;
 pub use filter::{Filter, action_for};
 pub use flag::ScmpFlag;
 pub use parts::{ArgParts, EntryParts, FilterParts};
+pub use short::Text;
 pub use text::{Form, Formed};
 pub use word::NameFault;

@@ -4,6 +4,7 @@ use crate::action::ActionWord;
 use crate::arch::Arch;
 use crate::compare::Op;
 use crate::flag::ScmpFlag;
+use crate::short::Text;
 use smallvec::SmallVec;
 use std::marker::Model;
 
@@ -24,7 +25,7 @@ pub struct ArgParts {
 #[derive(Debug, Drop)]
 pub struct EntryParts {
     /// The names of calls.
-    pub names: Vec<String>,
+    pub names: Vec<Text>,
     /// The name of the action.
     pub word: ActionWord,
     /// The number of the action, if one stands there.
@@ -34,13 +35,12 @@ pub struct EntryParts {
 }
 
 impl Model for EntryParts {
-    ghost use Rattle.std.specs.Prelude.{map, string_bytes};
     ghost use Rattle.seccomp_doc.specs.Parts.{EntryPartsValue};
 
     ghost Value = { EntryPartsValue };
 
     ghost view = { λ e. record {
-      names = map string_bytes e.names.items;
+      names = e.names.items;
       word = e.word;
       errno = e.errno;
       args = e.args.items;

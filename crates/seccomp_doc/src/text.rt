@@ -1,8 +1,9 @@
 //! Texts of a form.
 
-ghost use Rattle.std.specs.Prelude.{◌≡◌, true, if◌then◌else◌, Some, None, string_bytes};
+ghost use Rattle.std.specs.Prelude.{◌≡◌, true, if◌then◌else◌, Some, None};
 ghost use Rattle.seccomp_doc.specs.Word.{Reads};
 
+use crate::short::Text;
 use crate::word::NameFault;
 use std::alloc::Global;
 use std::fmt;
@@ -23,18 +24,18 @@ pub trait Form {
 /// A text of a form, which contracts see as its bytes.
 #[derive(Clone, Debug, Drop)]
 pub struct Formed<F: Form> {
-    text: String,
+    text: Text,
     form: PhantomData<F>,
 }
 
 impl<F: Form> Model for Formed<F> {
-    ghost use Rattle.std.specs.Prelude.{◌≡◌, List, ℕ, true, string_bytes};
+    ghost use Rattle.std.specs.Prelude.{◌≡◌, List, ℕ, true};
 
     ghost Value = { List ℕ };
 
-    ghost view = { λ a. string_bytes a.text };
+    ghost view = { λ a. a.text };
 
-    ghost invariant = { λ a. F.is_form (string_bytes a.text) ≡ true };
+    ghost invariant = { λ a. F.is_form a.text ≡ true };
 }
 
 impl<F: Form> Formed<F> {
@@ -50,15 +51,14 @@ impl<F: Form> Formed<F> {
             return Err(NameFault::NotAWord);
         }
         Ok(Formed {
-            text: String::from_str(alloc, text)?,
+            text: Text::new(alloc, text)?,
             form: PhantomData,
         })
     }
 
-    // The text itself, where it is of the form. It takes no memory.
-    pub(crate) fn from_string(text: String) -> Option<Formed<F>>
-        ensures { result
-            ≡ (if F.is_form (string_bytes text) then Some (string_bytes text) else None) }
+    // The text itself, where it is of the form. It takes no more memory.
+    pub(crate) fn from_text(text: Text) -> Option<Formed<F>>
+        ensures { result ≡ (if F.is_form text then Some text else None) }
     {
         if F::is_form(text.as_str()) {
             Some(Formed {

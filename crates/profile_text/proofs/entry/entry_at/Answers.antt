@@ -1,4 +1,4 @@
-use Rattle.std.proofs.Common.{inr, ap, map, option_map, string_bytes}
+use Rattle.std.proofs.Common.{inr, ap, option_map}
 use Rattle.std.proofs.lemmas.Result.{err_from_is_err_and}
 use Rattle.json_tree.specs.View.{members_view}
 use Rattle.profile_text.specs.FilterFound.{entry_seen}
@@ -20,8 +20,8 @@ returns-in_default c =
 
 pub returns-in_default-names : goal.returns-in_default-names
 returns-in_default-names c =
-    inr (rw c.in_ok-of_member-2.ensures (entry_without_names (path_of (Entry c.args.entry)) (members_view c.args.members.now) (entry_seen c.in_ok-word.field-0) _ (entry_walked (path_of (Entry c.args.entry)) (members_view c.args.members.now) _ (entry_seen c.in_ok-word.field-0) c.new.ensures.items c.in_ok-word.ensures) c.in-Some.is (ap (option_map (λ names. map string_bytes names.items)) c.in_default-names.is)))
+    inr (rw c.in_ok-of_member-2.ensures (entry_without_names (path_of (Entry c.args.entry)) (members_view c.args.members.now) (entry_seen c.in_ok-word.field-0) _ (entry_walked (path_of (Entry c.args.entry)) (members_view c.args.members.now) _ (entry_seen c.in_ok-word.field-0) c.new.ensures.items c.in_ok-word.ensures) c.in-Some.is (ap (option_map (λ names. names.items)) c.in_default-names.is)))
 
 pub returns : goal.returns
 returns c =
-    entry_read (path_of (Entry c.args.entry)) (members_view c.args.members.now) (entry_seen c.in_ok-word.field-0) _ _ (entry_walked (path_of (Entry c.args.entry)) (members_view c.args.members.now) _ (entry_seen c.in_ok-word.field-0) c.new.ensures.items c.in_ok-word.ensures) c.in-Some.is (ap (option_map (λ names. map string_bytes names.items)) c.in-Some-names.is)
+    entry_read (path_of (Entry c.args.entry)) (members_view c.args.members.now) (entry_seen c.in_ok-word.field-0) _ _ (entry_walked (path_of (Entry c.args.entry)) (members_view c.args.members.now) _ (entry_seen c.in_ok-word.field-0) c.new.ensures.items c.in_ok-word.ensures) c.in-Some.is (ap (option_map (λ names. names.items)) c.in-Some-names.is)
