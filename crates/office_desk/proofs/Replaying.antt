@@ -1,6 +1,6 @@
 -- How an event happens again, and what that leaves of an office.
 use Rattle.std.proofs.Common.{inl, inr, ◌≡◌, ◌∙◌, ℕ, List, true, false, Option, Some, None, Result, Ok, Err, IsErrAnd, IsTrue, refl, sym, ap, subst}
-use Rattle.std.specs.Prelude.{⊤, Vec, bytes_eq, option_and_then}
+use Rattle.std.specs.Prelude.{⊤, Vec, bytes_eq, option_and_then, is_none}
 use Rattle.std.specs.declared.alloc.Global.{Global}
 use Rattle.sqlite.specs.Held.{Held, state}
 use Rattle.sqlite.specs.State.{HasCleanDisk}
@@ -17,7 +17,7 @@ use Rattle.review_policy.specs.declared.fault.Fault.TheVariants as faults
 use Rattle.review_policy.specs.declared.answer.Reply.{Reply}
 use Rattle.review_policy.specs.declared.answer.Reply.TheVariants as reply
 use Rattle.review_policy.specs.declared.denial.Denial.{Denial}
-use Rattle.review_policy.specs.Rules.{first_denial, vote_rules, submit_rules}
+use Rattle.review_policy.specs.Rules.{first_denial, vote_rules, submit_rules, behind_caller}
 use Rattle.review_policy.specs.declared.fault.Fault.{Fault}
 use Rattle.office_tables.specs.declared.row.UserRow.{UserRow}
 use Rattle.office_policy.specs.declared.change.Change.{Change}
@@ -70,7 +70,7 @@ module _ (h : History) (lawful : IsLawfulHistory h) (caller : Option UserRow) wh
   asks_numbered (voted c p n d approves) a is none =
       subst HasNumber (sym is)
       (number_there h lawful p n
-      (none_refuses 1 (vote_rules (vote_facts caller (revision_of h p n) (is_author h p (name_of caller)) d)) (subst (λ b. first_denial (rules_of h caller b) ≡ Ok tt) is none)).1.1.0)
+      (none_refuses 1 (behind_caller (is_none caller) (vote_rules (vote_facts caller (revision_of h p n) (is_author h p (name_of caller)) d))) (subst (λ b. first_denial (rules_of h caller b) ≡ Ok tt) is none)).1.1.0)
   asks_numbered (on_revision c act p n) a is none =
       subst HasNumber (sym is) (number_there h lawful p n (revision_there h caller act p n (subst (λ b. first_denial (rules_of h caller b) ≡ Ok tt) is none)))
   asks_numbered (on_profile c act p) a is none = subst HasNumber (sym is) tt
@@ -121,7 +121,7 @@ module _ (h : History) (caller : Option UserRow) where
   same_submission p document (Err f) reads = tt
   same_submission p document (Ok profile) reads = λ a is.
       let again : reading_of is.0.items ≡ reading_of document.items = ap reading_of is.1 ∙ read_again document.items profile reads ∙ sym reads in (
-        ap (rules_of h caller) is.2 ∙ ap (λ r. submit_rules (submit_facts caller p.team r (last_revision h p) (revision_count h p))) again,
+        ap (rules_of h caller) is.2 ∙ ap (λ r. behind_caller (is_none caller) (submit_rules (submit_facts caller p.team r (last_revision h p) (revision_count h p)))) again,
         ap (done_of h caller) is.2 ∙ ap (new_revision h caller p) again,
       )
 

@@ -3,7 +3,6 @@
 ghost use Rattle.std.specs.Prelude.{◌≡◌, ℕ, List, Some, IfErr, IfOk};
 ghost use Rattle.sqlite.specs.Held.{state};
 ghost use Rattle.office_store.specs.Shown.{IsIdle};
-ghost use Rattle.office_policy.specs.Callers.{caller_of};
 ghost use Rattle.office_policy.specs.Facts.{is_text_of};
 ghost use Rattle.office_policy.specs.Formed.{HasForms, IsName};
 ghost use Rattle.office_policy.specs.Happened.{event_meant};
@@ -161,18 +160,6 @@ fn ask_to(alloc: Global, deed: &Deed) -> Result<Ask, Unreplayed>
     }
 }
 
-// What the event asks, which is the text itself where it is a submission.
-fn ask_of(alloc: Global, event: &Event) -> Result<Ask, Unreplayed>
-    ensures ask { IfOk result (IsAskOf (event_meant event.now)) }
-    ensures none { IfErr result (HasNoAsk (event_meant event.now)) }
-    ensures forms { IfOk result (λ ask. HasForms ask) }
-{
-    match event {
-        Event::Founded { .. } => Err(Unreplayed::Founding),
-        Event::Did { deed, .. } => ask_to(alloc, deed),
-    }
-}
-
 // Whether the text is that of a revision that is added.
 fn is_text_of(text: &Text, change: &Change) -> bool
     ensures { result ≡ is_text_of (Some text.now) (added change.now) }
@@ -184,7 +171,7 @@ fn is_text_of(text: &Text, change: &Change) -> bool
 }
 
 // Whether a change has the text of what a user did, where that is a submission.
-fn is_of_text(deed: &Deed, change: &Change) -> bool
+fn has_text(deed: &Deed, change: &Change) -> bool
     ensures { (caller : List ℕ) → result ≡ has_text (did caller deed.now) change.now }
 {
     match deed {
@@ -193,37 +180,26 @@ fn is_of_text(deed: &Deed, change: &Change) -> bool
     }
 }
 
-// Whether a change has the text of the event, where that is a submission.
-fn has_text(event: &Event, change: &Change) -> bool
-    ensures { result ≡ has_text (event_meant event.now) change.now }
-{
-    match event {
-        Event::Founded { .. } => true,
-        Event::Did { deed, .. } => is_of_text(deed, change),
-    }
-}
-
-// Has what the event asks happen again, where the policy allows it to the user of this name.
-fn replay_ask<S: Alter>(
+// Has what a user did, who asks so, happen again where the policy allows it.
+fn replay_deed<S: Alter>(
     alloc: Global,
     conn: &mut Connection<S>,
-    event: &Event,
-    name: &Word,
+    caller: &Word,
+    deed: &Deed,
     ask: &Ask,
 ) -> Result<(), Unreplayed>
     requires idle { IsIdle (state S.Store conn.old) }
-    requires asks { IsAskOf (event_meant event.now) ask.now }
-    requires called { caller_of (event_meant event.now) ≡ Some name.now }
+    requires asks { IsAskOf (did caller.now deed.now) ask.now }
     requires forms { HasForms ask.now }
     ensures idle { IsIdle (state S.Store conn.new) }
     ensures replayed { IsReplayed (meaning_over S.Store)
-        conn.old conn.new (event_meant event.now) result }
+        conn.old conn.new (did caller.now deed.now) result }
 {
-    let allowed = match judge_named(alloc, conn, name, ask)? {
+    let allowed = match judge_named(alloc, conn, caller, ask)? {
         Judgement::Allowed(allowed) => allowed,
         Judgement::Answered(_) => unreachable!(),
     };
-    if !has_text(event, &allowed.change) {
+    if !has_text(deed, &allowed.change) {
         return Err(Unreplayed::OtherText);
     }
     carry_out(conn, &allowed)?;
@@ -241,9 +217,11 @@ pub(crate) fn replay<S: Alter>(
     ensures replayed { IsReplayed (meaning_over S.Store)
         conn.old conn.new (event_meant event.now) result }
 {
-    let Some(name) = event.caller() else {
-        return Err(Unreplayed::Founding);
-    };
-    let ask = ask_of(alloc, event)?;
-    replay_ask(alloc, conn, event, name, &ask)
+    match event {
+        Event::Founded { .. } => Err(Unreplayed::Founding),
+        Event::Did { caller, deed } => {
+            let ask = ask_to(alloc, deed)?;
+            replay_deed(alloc, conn, caller, deed, &ask)
+        }
+    }
 }

@@ -21,7 +21,7 @@ use office_founding::listed;
 use office_judging::state_of;
 use office_policy::{Deed, Event};
 use office_store::{
-    Adopted, Ballot, Summary, ballot_of, baseline, held, last, summary_at, user_by_name,
+    Adopted, Ballot, Summary, ballot_of, baseline, is_held, last, summary_at, user_by_name,
 };
 use office_tables::{RevisionRow, UserRow};
 use review_policy::{Fault, ProfileName, RevisionAct, Role, Roles, State, Text, Word};
@@ -226,13 +226,13 @@ fn shows_baseline<S: Alter>(
 fn shows_hold<S: Alter>(
     conn: &mut Connection<S>,
     name: &ProfileName,
-    is_held: bool,
+    asked: bool,
 ) -> Result<bool, Fault>
     requires { IsIdle (state S.Store conn.old) }
     ensures { Reads S.Store conn.old conn.new result (λ t shown.
-        shown ≡ true ↔ (t.holds name.now ≡ is_held)) }
+        shown ≡ true ↔ (t.holds name.now ≡ asked)) }
 {
-    Ok(held(conn, name)? == is_held)
+    Ok(is_held(conn, name)? == asked)
 }
 
 // Whether the tables show what was done to a revision.

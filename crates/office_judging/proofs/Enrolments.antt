@@ -6,7 +6,7 @@ use Rattle.review_policy.specs.declared.answer.Reply.TheVariants.{Nothing}
 use Rattle.review_policy.specs.declared.denial.Denial.{Denial}
 use Rattle.review_policy.specs.declared.facts.TheConstants.EnrolFacts.{PASSING}
 use Rattle.review_policy.specs.declared.role.Role.TheVariants.{Registrar}
-use Rattle.review_policy.specs.Rules.{first_denial, enrol_rules}
+use Rattle.review_policy.specs.Rules.{enrol_rules, known_denial}
 use Rattle.office_tables.specs.declared.row.UserRow.{UserRow}
 use Rattle.office_tables.specs.Tables.{Tables}
 use Rattle.office_tables.specs.Reads.{IsUserShowing}
@@ -22,8 +22,8 @@ use Rattle.office_policy.proofs.UserFacts.{showing_one, user_named}
 use Rattle.office_judging.proofs.Verdicts.{denied_is, allowed_is}
 
 by_caller : (missing own fixed taken : Bool) (d : Denial)
-    → first_denial (enrol_rules (record PASSING { role_missing = missing; own_row = own })) ≡ Err d
-    → first_denial (enrol_rules (record { caller_unknown = false; role_missing = missing; own_row = own; team_fixed = fixed; token_taken = taken })) ≡ Err d
+    → known_denial (enrol_rules (record PASSING { role_missing = missing; own_row = own })) ≡ Err d
+    → known_denial (enrol_rules (record { role_missing = missing; own_row = own; team_fixed = fixed; token_taken = taken })) ≡ Err d
 by_caller true own fixed taken d e = e
 by_caller false true fixed taken d e = e
 by_caller false false fixed taken d e = absurd cc
@@ -50,12 +50,12 @@ itself_found user digest known (Some shower) t known_is shows there h lawful is 
 
 -- the rules of an enrolment by what was found: the user that has the name, and the one that shows the digest
 abbrev Decides : UserRow → (user team : List ℕ) → Option UserRow × Option UserRow → Result ⊤ Denial → Type 0
-Decides caller user team found decision = first_denial (enrol_rules (enrol_facts (Some caller) found.0 found.1 user team)) ≡ decision
+Decides caller user team found decision = known_denial (enrol_rules (enrol_facts (Some caller) found.0 found.1 user team)) ≡ decision
 
 module _ (h : History) (caller : UserRow) (user team : List ℕ) (roles : ℕ) (digest : List ℕ) where
   -- a caller that has no role for it, or whose own row it is, is refused whoever is enrolled
   pub refused_early : (d : Denial)
-      → first_denial (enrol_rules (record PASSING {
+      → known_denial (enrol_rules (record PASSING {
         role_missing = not (holds_role (Some caller) Registrar);
         own_row = is_named (Some caller) user;
       })) ≡ Err d

@@ -10,7 +10,7 @@ use Rattle.review_policy.specs.declared.denial.Denial.{Denial}
 use Rattle.review_policy.specs.declared.facts.FetchFacts.{FetchFacts}
 use Rattle.review_policy.specs.declared.facts.TheConstants.FetchFacts.{PASSING}
 use Rattle.review_policy.specs.declared.role.Role.TheVariants.{Machine}
-use Rattle.review_policy.specs.Rules.{first_denial, fetch_rules}
+use Rattle.review_policy.specs.Rules.{fetch_rules, behind_caller, known_denial}
 use Rattle.office_tables.specs.declared.row.UserRow.{UserRow}
 use Rattle.office_tables.specs.declared.row.RevisionRow.{RevisionRow}
 use Rattle.office_tables.specs.Lists.{holds_role}
@@ -26,23 +26,23 @@ use Rattle.office_judging.specs.Looked.{issued_at, brief_at}
 use Rattle.office_judging.proofs.Deciding.{Kind}
 
 pub fetching : (caller : UserRow) (p : ProfileName)
-    → Kind (Some caller) (ask.SeeProfile Fetch p) (issued_at p) (λ x. fetch_rules (fetch_facts (Some caller) p.team x.0 x.1))
+    → Kind (Some caller) (ask.SeeProfile Fetch p) (issued_at p) (λ x. behind_caller false (fetch_rules (fetch_facts (Some caller) p.team x.0 x.1)))
 fetching caller p = record { plain = λ h rule. refl; asked = λ h. refl }
 
 by_caller : (missing other nothing held : Bool) (d : Denial)
-    → first_denial (fetch_rules (record PASSING { role_missing = missing; other_team = other })) ≡ Err d
-    → first_denial (fetch_rules (record { caller_unknown = false; role_missing = missing; other_team = other; nothing_issued = nothing; held = held })) ≡ Err d
+    → known_denial (fetch_rules (record PASSING { role_missing = missing; other_team = other })) ≡ Err d
+    → known_denial (fetch_rules (record { role_missing = missing; other_team = other; nothing_issued = nothing; held = held })) ≡ Err d
 by_caller true other nothing held d e = e
 by_caller false true nothing held d e = e
 by_caller false false nothing held d e = absurd cc
 
 -- a caller whose roles or team refuse is refused whatever is issued
 pub fetch_early : (caller : UserRow) (p : ProfileName) (d : Denial)
-    → first_denial (fetch_rules (record PASSING {
+    → known_denial (fetch_rules (record PASSING {
       role_missing = not (holds_role (Some caller) Machine);
       other_team = not (is_of_team (Some caller) p.team);
     })) ≡ Err d
-    → (x : Option RevisionRow × Bool) → first_denial (fetch_rules (fetch_facts (Some caller) p.team x.0 x.1)) ≡ Err d
+    → (x : Option RevisionRow × Bool) → known_denial (fetch_rules (fetch_facts (Some caller) p.team x.0 x.1)) ≡ Err d
 fetch_early caller p d e x = by_caller (not (holds_role (Some caller) Machine)) (not (is_of_team (Some caller) p.team)) (is_none x.0) x.1 d e
 
 -- the issued revision is answered
@@ -61,18 +61,18 @@ none_mapped None = refl
 none_mapped (Some r) = refl
 
 pub telling_issued : (caller : UserRow) (p : ProfileName)
-    → Kind (Some caller) (ask.SeeProfile views.Issued p) (brief_at p) (λ x. fetch_rules (brief_facts caller p x))
+    → Kind (Some caller) (ask.SeeProfile views.Issued p) (brief_at p) (λ x. behind_caller false (fetch_rules (brief_facts caller p x)))
 telling_issued caller p = record {
   plain = λ h rule. refl;
-  asked = λ h. ap (λ none. fetch_rules (record (fetch_facts (Some caller) p.team None (is_held h p)) { nothing_issued = none })) (none_mapped (issued_revision h p));
+  asked = λ h. ap (λ none. behind_caller false (fetch_rules (record (fetch_facts (Some caller) p.team None (is_held h p)) { nothing_issued = none }))) (none_mapped (issued_revision h p));
 }
 
 pub brief_early : (caller : UserRow) (p : ProfileName) (d : Denial)
-    → first_denial (fetch_rules (record PASSING {
+    → known_denial (fetch_rules (record PASSING {
       role_missing = not (holds_role (Some caller) Machine);
       other_team = not (is_of_team (Some caller) p.team);
     })) ≡ Err d
-    → (x : Option Brief × Bool) → first_denial (fetch_rules (brief_facts caller p x)) ≡ Err d
+    → (x : Option Brief × Bool) → known_denial (fetch_rules (brief_facts caller p x)) ≡ Err d
 brief_early caller p d e x = by_caller (not (holds_role (Some caller) Machine)) (not (is_of_team (Some caller) p.team)) (is_none x.0) x.1 d e
 
 pub none_brief : (missing : Bool) (found : Option Brief) → is_some found ≡ not missing → missing ≡ is_none found

@@ -11,7 +11,7 @@ use Rattle.review_policy.specs.declared.denial.Need.TheVariants.{One, TwoWithSec
 use Rattle.review_policy.specs.declared.facts.IssueFacts.{IssueFacts}
 use Rattle.review_policy.specs.declared.facts.TheConstants.IssueFacts.{PASSING}
 use Rattle.review_policy.specs.declared.role.Role.TheVariants.{Issuer}
-use Rattle.review_policy.specs.Rules.{first_denial, first_from, issue_rules}
+use Rattle.review_policy.specs.Rules.{first_from, issue_rules, behind_caller, known_denial}
 use Rattle.office_tables.specs.declared.row.UserRow.{UserRow}
 use Rattle.office_tables.specs.declared.row.RevisionRow.{RevisionRow}
 use Rattle.office_tables.specs.declared.listed.Tally.{Tally}
@@ -71,22 +71,22 @@ fewer a e = grind arith
 
 -- behind the rejections two needs decide alike where there is enough for any
 enough_alike : (caller : UserRow) (l : Looked) → is_enough_for_any l.tally ≡ true → (m : ℕ)
-    → first_from m (drop 6 (issue_rules (facts_by caller l One))) ≡ first_from m (drop 6 (issue_rules (facts_by caller l TwoWithSecurity)))
+    → first_from m (drop 6 (behind_caller false (issue_rules (facts_by caller l One)))) ≡ first_from m (drop 6 (behind_caller false (issue_rules (facts_by caller l TwoWithSecurity))))
 enough_alike caller l enough m =
     let told = both_not (nat_lt l.tally.approvals 2) (l.tally.secure == 0) enough in
     rw told.0 (rw told.1 (rw (fewer l.tally.approvals told.0) refl))
 
 decided_by : (caller : UserRow) (l : Looked) (need : Need) (b : Bool) → is_enough_for_any l.tally ≡ b
-    → first_denial (issue_rules (facts_by caller l (deciding_need l.tally need))) ≡ first_denial (issue_rules (facts_by caller l need))
+    → known_denial (issue_rules (facts_by caller l (deciding_need l.tally need))) ≡ known_denial (issue_rules (facts_by caller l need))
 decided_by caller l need false e = rw e refl
 decided_by caller l One true e = rw e refl
 decided_by caller l TwoWithSecurity true e =
-    rw e (alike_behind 1 (take 6 (issue_rules (facts_by caller l One))) (drop 6 (issue_rules (facts_by caller l One)))
-    (drop 6 (issue_rules (facts_by caller l TwoWithSecurity))) (enough_alike caller l e))
+    rw e (alike_behind 1 (take 6 (behind_caller false (issue_rules (facts_by caller l One)))) (drop 6 (behind_caller false (issue_rules (facts_by caller l One))))
+    (drop 6 (behind_caller false (issue_rules (facts_by caller l TwoWithSecurity)))) (enough_alike caller l e))
 
 -- the rules decide by it as by the need itself
 pub decided_alike : (caller : UserRow) (l : Looked) (need : Need)
-    → first_denial (issue_rules (facts_by caller l (deciding_need l.tally need))) ≡ first_denial (issue_rules (facts_by caller l need))
+    → known_denial (issue_rules (facts_by caller l (deciding_need l.tally need))) ≡ known_denial (issue_rules (facts_by caller l need))
 decided_alike caller l need = decided_by caller l need (is_enough_for_any l.tally) refl
 
 -- a need that decides, where nothing is read for it
@@ -103,25 +103,25 @@ need_decides team tally body t c need few is looks h lawful same = rw few (is �
 
 module _ (h : History) (caller : UserRow) (p : ProfileName) (n : ℕ) where
   -- a caller without the role is refused whatever the revision
-  pub caller_refused : (d : Denial) → first_denial (issue_rules (facts_of_caller caller)) ≡ Err d
+  pub caller_refused : (d : Denial) → known_denial (issue_rules (facts_of_caller caller)) ≡ Err d
       → verdict_of h (Some caller) (ask.ActOnRevision Issue p n) ≡ denied d None
   caller_refused d e =
-      let all = issue_rules (facts_by caller (looked_at h p n caller.name) (need_at h p n)) in
-      denied_is h (Some caller) (ask.ActOnRevision Issue p n) d (refused_early (take 2 all) (drop 2 (issue_rules (facts_of_caller caller))) (drop 2 all) d refl e)
+      let all = behind_caller false (issue_rules (facts_by caller (looked_at h p n caller.name) (need_at h p n))) in
+      denied_is h (Some caller) (ask.ActOnRevision Issue p n) d (refused_early (take 2 all) (drop 2 (behind_caller false (issue_rules (facts_of_caller caller)))) (drop 2 all) d refl e)
 
   module _ (l : Looked) (is : l ≡ looked_at h p n caller.name) where
-    denied_by : (d : Denial) → first_denial (issue_rules (facts_by caller l (need_at h p n))) ≡ Err d
+    denied_by : (d : Denial) → known_denial (issue_rules (facts_by caller l (need_at h p n))) ≡ Err d
         → verdict_of h (Some caller) (ask.ActOnRevision Issue p n) ≡ denied d None
     denied_by d e =
         denied_is h (Some caller) (ask.ActOnRevision Issue p n) d
-        (subst (λ k. first_denial (issue_rules (facts_by caller k (need_at h p n))) ≡ Err d) is e)
+        (subst (λ k. known_denial (issue_rules (facts_by caller k (need_at h p n))) ≡ Err d) is e)
 
     -- what refuses whatever is needed
-    pub refused_early_on : (d : Denial) → first_denial (issue_rules (facts_early caller l)) ≡ Err d
+    pub refused_early_on : (d : Denial) → known_denial (issue_rules (facts_early caller l)) ≡ Err d
         → verdict_of h (Some caller) (ask.ActOnRevision Issue p n) ≡ denied d None
     refused_early_on d e =
-        let all = issue_rules (facts_by caller l (need_at h p n)) in
-        denied_by d (refused_early (take 6 all) (drop 6 (issue_rules (facts_early caller l))) (drop 6 all) d refl e)
+        let all = behind_caller false (issue_rules (facts_by caller l (need_at h p n))) in
+        denied_by d (refused_early (take 6 all) (drop 6 (behind_caller false (issue_rules (facts_early caller l)))) (drop 6 all) d refl e)
 
     -- the need of the revision
     module _ (r : RevisionRow) (there : l.revision ≡ Some r) (asked : Need)
@@ -135,20 +135,20 @@ module _ (h : History) (caller : UserRow) (p : ProfileName) (n : ℕ) where
       need_is : need ≡ need_at h p n
       need_is = ap (need_of_row h p.team) (sym row_is)
 
-      decides : first_denial (issue_rules (facts_by caller l (need_at h p n))) ≡ first_denial (issue_rules (facts_by caller l asked))
+      decides : known_denial (issue_rules (facts_by caller l (need_at h p n))) ≡ known_denial (issue_rules (facts_by caller l asked))
       decides =
           sym
-          (ap (λ k. first_denial (issue_rules (facts_by caller l k))) is_asked ∙ decided_alike caller l need
-          ∙ ap (λ k. first_denial (issue_rules (facts_by caller l k))) need_is)
+          (ap (λ k. known_denial (issue_rules (facts_by caller l k))) is_asked ∙ decided_alike caller l need
+          ∙ ap (λ k. known_denial (issue_rules (facts_by caller l k))) need_is)
 
-      pub refused_by_need : (d : Denial) → first_denial (issue_rules (facts_by caller l asked)) ≡ Err d
+      pub refused_by_need : (d : Denial) → known_denial (issue_rules (facts_by caller l asked)) ≡ Err d
           → verdict_of h (Some caller) (ask.ActOnRevision Issue p n) ≡ denied d None
       refused_by_need d e = denied_by d (decides ∙ e)
 
       -- none refuses it
-      pub accepts : first_denial (issue_rules (facts_by caller l asked)) ≡ Ok tt
+      pub accepts : known_denial (issue_rules (facts_by caller l asked)) ≡ Ok tt
           → verdict_of h (Some caller) (ask.ActOnRevision Issue p n) ≡ accepted (reply.Issued r.digest) (Some (issued caller.name p n))
       accepts e =
           allowed_is h (Some caller) (ask.ActOnRevision Issue p n)
-          (subst (λ k. first_denial (issue_rules (facts_by caller k (need_at h p n))) ≡ Ok tt) is (decides ∙ e))
+          (subst (λ k. known_denial (issue_rules (facts_by caller k (need_at h p n))) ≡ Ok tt) is (decides ∙ e))
           ∙ ap (λ o. of_revision o (λ r. accepted (reply.Issued r.digest) (Some (issued caller.name p n)))) row_is

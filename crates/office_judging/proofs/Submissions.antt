@@ -11,7 +11,7 @@ use Rattle.review_policy.specs.declared.denial.Rule.TheVariants.{Document}
 use Rattle.review_policy.specs.declared.facts.SubmitFacts.{SubmitFacts}
 use Rattle.review_policy.specs.declared.facts.TheConstants.SubmitFacts.{PASSING}
 use Rattle.review_policy.specs.declared.role.Role.TheVariants.{Author}
-use Rattle.review_policy.specs.Rules.{first_denial, submit_rules}
+use Rattle.review_policy.specs.Rules.{submit_rules, known_denial}
 use Rattle.profile_text.specs.declared.profile.Profile.{Profile}
 use Rattle.profile_text.specs.declared.fault.DocFault.{DocFault}
 use Rattle.profile_text.specs.Digest.{digest_of}
@@ -48,7 +48,7 @@ facts_on caller team same revisions = record PASSING {
 
 -- and what the rules say, by its text and the last revision
 abbrev decision_on : UserRow → List ℕ → (text : List ℕ) → Option RevisionRow → Result ⊤ Denial
-decision_on caller team text last = first_denial (submit_rules (facts_on caller team (is_text_of (Some text) (if_open last)) (number_of last)))
+decision_on caller team text last = known_denial (submit_rules (facts_on caller team (is_text_of (Some text) (if_open last)) (number_of last)))
 
 -- a document with a canonical text reads
 reads : (reading : Result Profile DocFault) (text : List ℕ) → canonical reading ≡ Some text
@@ -77,7 +77,7 @@ asked_of caller p document text is_text row is =
 module _ (h : History) (caller : UserRow) (p : ProfileName) (document : Vec ℕ Global) where
   -- the rules, by what the document reads as
   abbrev decided : Result Profile DocFault → Result ⊤ Denial
-  decided reading = first_denial (submit_rules (submit_facts (Some caller) p.team reading (last_revision h p) (revision_count h p)))
+  decided reading = known_denial (submit_rules (submit_facts (Some caller) p.team reading (last_revision h p) (revision_count h p)))
 
   module _ (text : List ℕ) (is_text : canonical (reading_of document.items) ≡ Some text)
       (last : Option RevisionRow) (is_last : IsLast (tables_of h) p last) where
@@ -93,7 +93,7 @@ module _ (h : History) (caller : UserRow) (p : ProfileName) (document : Vec ℕ 
     decided_on : decided (reading_of document.items) ≡ decision_on caller p.team text last
     decided_on =
         ap decided is_read
-        ∙ (λ i. first_denial (submit_rules (facts_on caller p.team
+        ∙ (λ i. known_denial (submit_rules (facts_on caller p.team
         (is_text_of (Some (is_its i)) (if_open (sym (last_found h p last is_last) i))) (sym (last_number h p last is_last) i))))
 
     -- what the last revision refuses

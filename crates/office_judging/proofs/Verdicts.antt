@@ -1,7 +1,6 @@
 -- How a request meets its verdict, and what it comes to by its kind.
 use Rattle.std.proofs.Common.{◌≡◌, ◌∙◌, List, ℕ, true, Option, Some, None, Result, Ok, Err, IfOk, refl, sym, ap, subst}
 use Rattle.sqlite.specs.State.{State}
-use Rattle.review_policy.specs.declared.act.RevisionAct.TheVariants.{Issue, Withdraw, Adopt}
 use Rattle.review_policy.specs.Rules.{first_denial}
 use Rattle.review_policy.specs.declared.ask.Ask.{Ask}
 use Rattle.review_policy.specs.declared.ask.Ask.TheVariants as ask
@@ -42,18 +41,8 @@ allowed_is h caller a e = ap (judged h caller a) e
 
 -- a stranger is refused whatever is asked
 pub stranger : (h : History) (a : Ask) → verdict_of h None a ≡ denied (record { number = 1; rule = CallerUnknown }) None
-stranger h (ask.Enrol user team roles digest) = refl
 stranger h (ask.Submit p document) = refl
-stranger h (ask.Vote p n digest approve) = refl
-stranger h (ask.ActOnRevision Issue p n) = refl
-stranger h (ask.ActOnRevision Withdraw p n) = refl
-stranger h (ask.ActOnRevision Adopt p n) = refl
-stranger h (ask.SeeRevision view p n) = refl
-stranger h (ask.List team) = refl
-stranger h (ask.ActOnProfile act p) = refl
-stranger h (ask.SeeProfile view p) = refl
-stranger h ask.Me = refl
-stranger h (ask.Revisions p before) = refl
+stranger h _ = refl
 
 -- the caller is the user who was found by the token's digest
 pub called : (h : History) → IsLawfulHistory h → (r : Request) (digest : List ℕ) (user : Option UserRow) → digest ≡ digest_of r.token → IsUserShowing (tables_of h) digest user

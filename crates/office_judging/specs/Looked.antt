@@ -26,7 +26,7 @@ authored_at p n name h = (summary_at p n h, is_author h p name)
 abbrev pub issued_at : ProfileName → History → Option RevisionRow × Bool
 issued_at p h = (issued_revision h p, is_held h p)
 
--- the same without its text
+-- the issued revision of a profile without its text, and whether that is held
 abbrev pub brief_at : ProfileName → History → Option Brief × Bool
 brief_at p h = (option_map brief_of (issued_revision h p), is_held h p)
 

@@ -16,7 +16,9 @@ use crate::revisions::{authored, state_of};
 use office_policy::{Allowed, Change};
 use office_store::Summary;
 use office_tables::UserRow;
-use review_policy::{AdoptFacts, ProfileName, Reply, RevisionAct, Role, decide_adopt};
+use review_policy::decide::decide_adopt;
+use review_policy::facts::AdoptFacts;
+use review_policy::{ProfileName, Reply, RevisionAct, Role};
 use sqlite::{Alter, Connection};
 
 // What the rules ask of a caller.

@@ -16,7 +16,9 @@ use crate::refusal::Refusal;
 use office_policy::{Allowed, Change};
 use office_store::{user_by_name, user_by_token};
 use office_tables::UserRow;
-use review_policy::{EnrolFacts, Fault, Reply, Role, Roles, Word, decide_enrol};
+use review_policy::decide::decide_enrol;
+use review_policy::facts::EnrolFacts;
+use review_policy::{Fault, Reply, Role, Roles, Word};
 use sqlite::{Alter, Connection};
 use std::alloc::{AllocError, Global};
 

@@ -15,9 +15,11 @@ ghost use Rattle.office_judging.specs.Looked.{issued_at};
 ghost use Rattle.office_judging.specs.Judged.{JudgesRead};
 
 use crate::refusal::Refusal;
-use office_store::{held, issued};
+use office_store::{is_held, issued};
 use office_tables::{RevisionRow, UserRow};
-use review_policy::{Fault, FetchFacts, ProfileName, Reply, Role, Word, decide_fetch};
+use review_policy::decide::decide_fetch;
+use review_policy::facts::FetchFacts;
+use review_policy::{Fault, ProfileName, Reply, Role, Word};
 use sqlite::{Alter, Connection};
 use std::alloc::Global;
 
@@ -62,7 +64,7 @@ fn look_at<S: Alter>(
         (λ t found. LooksBack (issued_at name.now) t found) }
 {
     let found = issued(alloc, conn, name)?;
-    let is_held = held(conn, name)?;
+    let is_held = is_held(conn, name)?;
     Ok((found, is_held))
 }
 

@@ -11,9 +11,11 @@ ghost use Rattle.office_judging.specs.Judged.{IsAskedBy, JudgesChange};
 
 use crate::refusal::Refusal;
 use office_policy::{Allowed, Change};
-use office_store::{has_revision, held};
+use office_store::{has_revision, is_held};
 use office_tables::UserRow;
-use review_policy::{Fault, HoldFacts, ProfileAct, ProfileName, Reply, Role, decide_hold};
+use review_policy::decide::decide_hold;
+use review_policy::facts::HoldFacts;
+use review_policy::{Fault, ProfileAct, ProfileName, Reply, Role};
 use sqlite::{Alter, Connection};
 
 // Whether a profile has no revision, and whether it is held.
@@ -23,7 +25,7 @@ fn look_at<S: Alter>(conn: &mut Connection<S>, name: &ProfileName) -> Result<(bo
         (λ t found. LooksBack (hold_at name.now) t found) }
 {
     let is_there = has_revision(conn, name)?;
-    let is_held = held(conn, name)?;
+    let is_held = is_held(conn, name)?;
     Ok((!is_there, is_held))
 }
 

@@ -21,11 +21,11 @@ use crate::baseline::{compared_with, need_of};
 use crate::refusal::Refusal;
 use crate::revisions::state_in;
 use office_policy::{Allowed, Change};
-use office_store::{held, is_author, revision, tally};
+use office_store::{is_author, is_held, revision, tally};
 use office_tables::{RevisionRow, Tally, UserRow};
-use review_policy::{
-    Fault, IssueFacts, Need, ProfileName, Reply, RevisionAct, Role, Text, Word, decide_issue,
-};
+use review_policy::decide::decide_issue;
+use review_policy::facts::IssueFacts;
+use review_policy::{Fault, Need, ProfileName, Reply, RevisionAct, Role, Text, Word};
 use sqlite::{Alter, Connection};
 use std::alloc::Global;
 
@@ -53,7 +53,7 @@ fn look_up<S: Alter>(
     let revision = revision(alloc, conn, name, number)?;
     let by_author = is_author(conn, name, &caller.name)?;
     let tally = tally(alloc, conn, name, number)?;
-    let held = held(conn, name)?;
+    let held = is_held(conn, name)?;
     Ok(Looked {
         revision,
         by_author,

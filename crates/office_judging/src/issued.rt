@@ -13,9 +13,11 @@ ghost use Rattle.office_judging.specs.Judged.{JudgesRead};
 
 use crate::fetch::facts_of_caller;
 use crate::refusal::Refusal;
-use office_store::{Brief, held, issued_brief};
+use office_store::{Brief, is_held, issued_brief};
 use office_tables::UserRow;
-use review_policy::{Fault, FetchFacts, ProfileName, Reply, Word, decide_fetch};
+use review_policy::decide::decide_fetch;
+use review_policy::facts::FetchFacts;
+use review_policy::{Fault, ProfileName, Reply, Word};
 use sqlite::{Alter, Connection};
 
 // All that the rules ask, where a revision is issued or none is.
@@ -41,7 +43,7 @@ fn look_at<S: Alter>(
         (λ t found. LooksBack (brief_at name.now) t found) }
 {
     let found = issued_brief(conn, name)?;
-    let is_held = held(conn, name)?;
+    let is_held = is_held(conn, name)?;
     Ok((found, is_held))
 }
 

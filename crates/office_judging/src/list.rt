@@ -10,7 +10,8 @@ use crate::profiles::profiles_of;
 use crate::reading::read_facts;
 use crate::refusal::Refusal;
 use office_tables::UserRow;
-use review_policy::{Reply, Word, decide_read};
+use review_policy::decide::decide_read;
+use review_policy::{Reply, Word};
 use sqlite::{Alter, Connection};
 use std::alloc::Global;
 

@@ -13,9 +13,10 @@ use crate::reading::read_facts;
 use crate::refusal::Refusal;
 use office_store::{has_revision, newest_below};
 use office_tables::UserRow;
+use review_policy::decide::decide_revisions;
+use review_policy::facts::RevisionsFacts;
 use review_policy::{
-    MAX_LISTED, MAX_REVISIONS, ProfileName, ProfileRevision, Reply, RevisionList, RevisionsFacts,
-    Word, decide_revisions,
+    MAX_LISTED, MAX_REVISIONS, ProfileName, ProfileRevision, Reply, RevisionList, Word,
 };
 use sqlite::{Alter, Connection};
 use std::alloc::Global;
@@ -26,7 +27,6 @@ fn facts(caller: &UserRow, team: &Word, no_profile: bool) -> RevisionsFacts
 {
     let read = read_facts(caller, team, false);
     RevisionsFacts {
-        caller_unknown: read.caller_unknown,
         role_missing: read.role_missing,
         other_team: read.other_team,
         no_profile,

@@ -6,14 +6,14 @@ ghost use Rattle.office_policy.specs.Facts.{read_facts};
 
 use crate::caller::sees_every_team;
 use office_tables::UserRow;
-use review_policy::{ReadFacts, Role, Word};
+use review_policy::facts::ReadFacts;
+use review_policy::{Role, Word};
 
 // What the rules ask of a caller, a team, and whether the revision isn't there.
 pub(crate) fn read_facts(caller: &UserRow, team: &Word, no_revision: bool) -> ReadFacts
     ensures { result ≡ read_facts (Some caller.now) team.now no_revision }
 {
     ReadFacts {
-        caller_unknown: false,
         role_missing: !(caller.roles.has(Role::Author) || sees_every_team(caller)),
         other_team: !(caller.team.is(team) || sees_every_team(caller)),
         no_revision,

@@ -11,7 +11,8 @@ use crate::reading::read_facts;
 use crate::refusal::Refusal;
 use office_store::revision;
 use office_tables::UserRow;
-use review_policy::{ProfileName, Reply, decide_read};
+use review_policy::decide::decide_read;
+use review_policy::{ProfileName, Reply};
 use sqlite::{Alter, Connection};
 use std::alloc::Global;
 

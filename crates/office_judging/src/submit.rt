@@ -22,9 +22,9 @@ use office_policy::{Allowed, Change};
 use office_store::last;
 use office_tables::{RevisionRow, UserRow};
 use profile_text::{DocFault, digest, fault_text, read_with_text};
-use review_policy::{
-    Fault, ProfileName, Reply, Role, State, SubmitFacts, Text, Word, decide_submit,
-};
+use review_policy::decide::decide_submit;
+use review_policy::facts::SubmitFacts;
+use review_policy::{Fault, ProfileName, Reply, Role, State, Text, Word};
 use sqlite::{Alter, Connection};
 use std::alloc::{AllocError, Global};
 

@@ -15,7 +15,9 @@ use crate::revisions::{authored, state_of};
 use office_policy::{Allowed, Change};
 use office_store::Summary;
 use office_tables::UserRow;
-use review_policy::{ProfileName, Reply, Role, VoteFacts, decide_vote};
+use review_policy::decide::decide_vote;
+use review_policy::facts::VoteFacts;
+use review_policy::{ProfileName, Reply, Role};
 use sqlite::{Alter, Connection};
 
 // What the rules ask of a caller.

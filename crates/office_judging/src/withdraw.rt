@@ -17,7 +17,9 @@ use crate::revisions::state_of;
 use office_policy::{Allowed, Change};
 use office_store::{Summary, summary_at};
 use office_tables::UserRow;
-use review_policy::{ProfileName, Reply, RevisionAct, Role, WithdrawFacts, Word, decide_withdraw};
+use review_policy::decide::decide_withdraw;
+use review_policy::facts::WithdrawFacts;
+use review_policy::{ProfileName, Reply, RevisionAct, Role, Word};
 use sqlite::{Alter, Connection};
 
 // What the rules ask of a caller and a team.

@@ -1,6 +1,6 @@
 -- What is shown and fetched was submitted, and nothing of a held profile is given out.
 use Rattle.std.proofs.Common.{◌≡◌, ◌∙◌, ℕ, List, true, false, cond, Some, None, Option, Ok, Err, refl, sym, ap, subst}
-use Rattle.std.specs.Prelude.{Result, ⊤, option_map, option_and_then, nat_lt}
+use Rattle.std.specs.Prelude.{Result, ⊤, option_map, option_and_then, nat_lt, is_none}
 use Rattle.std.specs.List.{list_any}
 use Rattle.profile_text.specs.Digest.{digest_of}
 use Rattle.review_policy.specs.declared.act.ProfileView.TheVariants.{Fetch}
@@ -16,7 +16,7 @@ use Rattle.review_policy.specs.declared.answer.Reply.TheVariants as reply
 use Rattle.review_policy.specs.declared.denial.Denial.{Denial}
 use Rattle.review_policy.specs.declared.revision.State.{State}
 use Rattle.review_policy.specs.declared.revision.State.TheVariants.{Open, Closed, Issued, Replaced, Withdrawn}
-use Rattle.review_policy.specs.Rules.{is_issued, issue_rules, fetch_rules, first_denial}
+use Rattle.review_policy.specs.Rules.{is_issued, issue_rules, fetch_rules, first_denial, behind_caller}
 use Rattle.office_tables.specs.declared.row.UserRow.{UserRow}
 use Rattle.office_tables.specs.declared.row.RevisionRow.{RevisionRow}
 use Rattle.office_policy.specs.History.{Event, issued as issued_event, History}
@@ -55,13 +55,13 @@ pub issued_free : (h : History) (r : Request) (p : ProfileName) (n : ℕ) (reply
 issued_free h r p n reply e asks is =
     let caller = user_showing h (digest_of r.token) in
     let done = carried_out h r (ask.ActOnRevision Issue p n) reply e asks is in
-    (none_refuses 1 (issue_rules (issue_facts caller (revision_of h p n) (is_author h p (name_of caller)) (tally_at h p n) (need_at h p n) (is_held h p))) done.none_refuses).1.1.1.1.1.1.1.1.0
+    (none_refuses 1 (behind_caller (is_none caller) (issue_rules (issue_facts caller (revision_of h p n) (is_author h p (name_of caller)) (tally_at h p n) (need_at h p n) (is_held h p)))) done.none_refuses).1.1.1.1.1.1.1.1.0
 
 pub fetched_free : (h : History) (r : Request) (p : ProfileName) (reply : Reply) (e : Option Event) → r.ask ≡ ask.SeeProfile Fetch p → verdict h r ≡ accepted reply e → is_held h p ≡ false
 fetched_free h r p reply e asks is =
     let caller = user_showing h (digest_of r.token) in
     let done = carried_out h r (ask.SeeProfile Fetch p) reply e asks is in
-    (none_refuses 1 (fetch_rules (fetch_facts caller p.team (issued_revision h p) (is_held h p))) done.none_refuses).1.1.1.1.0
+    (none_refuses 1 (behind_caller (is_none caller) (fetch_rules (fetch_facts caller p.team (issued_revision h p) (is_held h p)))) done.none_refuses).1.1.1.1.0
 
 -- ---- texts
 

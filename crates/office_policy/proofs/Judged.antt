@@ -10,7 +10,7 @@ use Rattle.review_policy.specs.declared.answer.Reply.TheVariants as reply
 use Rattle.review_policy.specs.declared.denial.Denial.{Denial}
 use Rattle.review_policy.specs.declared.denial.Rule.{Rule}
 use Rattle.review_policy.specs.declared.denial.Rule.TheVariants.{NoRevision}
-use Rattle.review_policy.specs.Rules.{submit_rules, read_rules, fetch_rules, me_rules, first_from, first_denial}
+use Rattle.review_policy.specs.Rules.{submit_rules, read_rules, fetch_rules, first_from, first_denial, behind_caller}
 use Rattle.profile_text.specs.declared.profile.Profile.{Profile}
 use Rattle.profile_text.specs.declared.fault.DocFault.{DocFault}
 use Rattle.profile_text.specs.Reading.{reading_of}
@@ -66,7 +66,7 @@ with_state (Some row) there = refl
 allowed_done : (h : History) (caller : Option UserRow) (a : Ask) → first_denial (rules_of h caller a) ≡ Ok tt → done_of h caller a ≢ unreached
 allowed_done h caller (ask.Enrol user team roles digest) none e = cc
 allowed_done h caller (ask.Submit p document) none e =
-    read_done h caller p (reading_of document.items) (none_refuses 1 (submit_rules (submit_facts caller p.team (reading_of document.items) (last_revision h p) (revision_count h p))) none).1.1.1.0 e
+    read_done h caller p (reading_of document.items) (none_refuses 1 (behind_caller (is_none caller) (submit_rules (submit_facts caller p.team (reading_of document.items) (last_revision h p) (revision_count h p)))) none).1.1.1.0 e
 allowed_done h caller (ask.Vote p n digest approve) none e = cc
 allowed_done h caller (ask.ActOnRevision Issue p n) none e =
     there_done (revision_of h p n) (λ r. accepted (reply.Issued r.digest) (Some (on_revision (name_of caller) Issue p n)))
@@ -75,14 +75,14 @@ allowed_done h caller (ask.ActOnRevision Withdraw p n) none e = cc
 allowed_done h caller (ask.ActOnRevision Adopt p n) none e = cc
 allowed_done h caller (ask.SeeRevision view p n) none e =
     there_done (revision_of h p n) (λ r. accepted (seen_of h p view r) None)
-    (none_refuses 1 (read_rules (read_facts caller p.team (is_none (revision_of h p n)))) none).1.1.1.0 (λ row same. cc) e
+    (none_refuses 1 (behind_caller (is_none caller) (read_rules (read_facts caller p.team (is_none (revision_of h p n))))) none).1.1.1.0 (λ row same. cc) e
 allowed_done h caller (ask.List team) none e = cc
 allowed_done h caller (ask.ActOnProfile act p) none e = cc
 allowed_done h caller (ask.SeeProfile view p) none e =
     there_done (issued_revision h p) (λ r. accepted (given_of view r) None)
-    (none_refuses 1 (fetch_rules (fetch_facts caller p.team (issued_revision h p) (is_held h p))) none).1.1.1.0 (λ row same. cc) e
+    (none_refuses 1 (behind_caller (is_none caller) (fetch_rules (fetch_facts caller p.team (issued_revision h p) (is_held h p)))) none).1.1.1.0 (λ row same. cc) e
 allowed_done h caller ask.Me none e =
-    known_done caller (λ u. accepted (reply.Me u.name u.team u.roles) None) (none_refuses 1 (me_rules (is_none caller)) none).0 (λ user same. cc) e
+    known_done caller (λ u. accepted (reply.Me u.name u.team u.roles) None) (none_refuses 1 (behind_caller (is_none caller) []) none).0 (λ user same. cc) e
 allowed_done h caller (ask.Revisions p before) none e = cc
 
 -- the verdict on what is asked

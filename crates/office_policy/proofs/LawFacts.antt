@@ -11,7 +11,7 @@ use Rattle.review_policy.specs.declared.answer.Reply.{Reply}
 use Rattle.review_policy.specs.declared.answer.Reply.TheVariants as reply
 use Rattle.review_policy.specs.declared.role.Role.{Role}
 use Rattle.review_policy.specs.declared.role.Role.TheVariants.{Author, Reviewer, Security, Issuer}
-use Rattle.review_policy.specs.Rules.{max_revisions, approvals_of, asks_security, is_open, is_issued, is_standing, enrol_rules, submit_rules, vote_rules, issue_rules, withdraw_rules, adopt_rules, first_denial}
+use Rattle.review_policy.specs.Rules.{max_revisions, approvals_of, asks_security, is_open, is_issued, is_standing, enrol_rules, submit_rules, vote_rules, issue_rules, withdraw_rules, adopt_rules, first_denial, behind_caller}
 use Rattle.profile_text.specs.declared.profile.Profile.{Profile}
 use Rattle.profile_text.specs.declared.fault.DocFault.{DocFault}
 use Rattle.profile_text.specs.Reading.{reading_of}
@@ -118,9 +118,9 @@ done_to_by P r Adopt e none each = each reply.Nothing
 pub revision_there : (h : History) (caller : Option UserRow) (act : RevisionAct) (p : ProfileName) (n : ℕ)
     → first_denial (rules_of h caller (ask.ActOnRevision act p n)) ≡ Ok tt → is_none (state_in (revision_of h p n)) ≡ false
 revision_there h caller Issue p n e =
-    (none_refuses 1 (issue_rules (issue_facts caller (revision_of h p n) (is_author h p (name_of caller)) (tally_at h p n) (need_at h p n) (is_held h p))) e).1.1.0
-revision_there h caller Withdraw p n e = (none_refuses 1 (withdraw_rules (withdraw_facts caller p.team (revision_of h p n))) e).1.1.1.0
-revision_there h caller Adopt p n e = (none_refuses 1 (adopt_rules (adopt_facts caller (revision_of h p n) (is_author h p (name_of caller)))) e).1.1.0
+    (none_refuses 1 (behind_caller (is_none caller) (issue_rules (issue_facts caller (revision_of h p n) (is_author h p (name_of caller)) (tally_at h p n) (need_at h p n) (is_held h p)))) e).1.1.0
+revision_there h caller Withdraw p n e = (none_refuses 1 (behind_caller (is_none caller) (withdraw_rules (withdraw_facts caller p.team (revision_of h p n)))) e).1.1.1.0
+revision_there h caller Adopt p n e = (none_refuses 1 (behind_caller (is_none caller) (adopt_rules (adopt_facts caller (revision_of h p n) (is_author h p (name_of caller))))) e).1.1.0
 
 -- the caller is the user of that name
 known_caller : (h : History) (digest : List ℕ) → is_none (user_showing h digest) ≡ false → user_of h (name_of (user_showing h digest)) ≡ user_showing h digest
@@ -144,13 +144,13 @@ module _ (h : History) (caller : Option UserRow) (named : is_none caller ≡ fal
   -- what is done where no rule refuses follows
   done_follows : (a : Ask) → first_denial (rules_of h caller a) ≡ Ok tt → FollowsIn h (done_of h caller a)
   done_follows (ask.Enrol user team roles digest) e =
-      let none = none_refuses 1 (enrol_rules (enrol_facts caller (user_of h user) (user_showing h digest) user team)) e in
+      let none = none_refuses 1 (behind_caller (is_none caller) (enrol_rules (enrol_facts caller (user_of h user) (user_showing h digest) user team))) e in
       record { same_team = none.1.1.1.0; free_token = none.1.1.1.1.0 }
   done_follows (ask.Submit p document) e =
-      let none = none_refuses 1 (submit_rules (submit_facts caller p.team (reading_of document.items) (last_revision h p) (revision_count h p))) e in
+      let none = none_refuses 1 (behind_caller (is_none caller) (submit_rules (submit_facts caller p.team (reading_of document.items) (last_revision h p) (revision_count h p)))) e in
       submission_follows p document.items (reading_of document.items) refl (role_held Author none.0 none.1.0) none.1.1.1.1.0 none.1.1.1.1.1.0
   done_follows (ask.Vote p n digest approve) e =
-      let none = none_refuses 1 (vote_rules (vote_facts caller (revision_of h p n) (is_author h p (name_of caller)) digest)) e in
+      let none = none_refuses 1 (behind_caller (is_none caller) (vote_rules (vote_facts caller (revision_of h p n) (is_author h p (name_of caller)) digest))) e in
       record {
         reviewer = role_held Reviewer none.0 none.1.0;
         no_author = none.1.1.1.0;
@@ -158,7 +158,7 @@ module _ (h : History) (caller : Option UserRow) (named : is_none caller ≡ fal
         named = not_false (has_digest (revision_of h p n) digest) none.1.1.1.1.1.0;
       }
   done_follows (ask.ActOnRevision Issue p n) e =
-      let none = none_refuses 1 (issue_rules (issue_facts caller (revision_of h p n) (is_author h p (name_of caller)) (tally_at h p n) (need_at h p n) (is_held h p))) e in
+      let none = none_refuses 1 (behind_caller (is_none caller) (issue_rules (issue_facts caller (revision_of h p n) (is_author h p (name_of caller)) (tally_at h p n) (need_at h p n) (is_held h p)))) e in
       of_revision_by (FollowsIn h) (revision_of h p n) (λ r. accepted (reply.Issued r.digest) (Some (issued (name_of caller) p n))) tt (λ r. record {
         issuer = role_held Issuer none.0 none.1.0;
         there = none.1.1.0;
@@ -170,10 +170,10 @@ module _ (h : History) (caller : Option UserRow) (named : is_none caller ≡ fal
         free = none.1.1.1.1.1.1.1.1.0;
       })
   done_follows (ask.ActOnRevision Withdraw p n) e =
-      let none = none_refuses 1 (withdraw_rules (withdraw_facts caller p.team (revision_of h p n))) e in
+      let none = none_refuses 1 (behind_caller (is_none caller) (withdraw_rules (withdraw_facts caller p.team (revision_of h p n)))) e in
       record { there = none.1.1.1.0; standing = not_false (is_standing (state_in (revision_of h p n))) none.1.1.1.1.0 }
   done_follows (ask.ActOnRevision Adopt p n) e =
-      let none = none_refuses 1 (adopt_rules (adopt_facts caller (revision_of h p n) (is_author h p (name_of caller)))) e in
+      let none = none_refuses 1 (behind_caller (is_none caller) (adopt_rules (adopt_facts caller (revision_of h p n) (is_author h p (name_of caller))))) e in
       record {
         security = role_held Security none.0 none.1.0;
         there = none.1.1.0;

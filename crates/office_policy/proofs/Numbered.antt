@@ -8,7 +8,7 @@ use Rattle.review_policy.specs.declared.ask.Ask.TheVariants as ask
 use Rattle.review_policy.specs.declared.ask.Request.{Request}
 use Rattle.review_policy.specs.declared.answer.Reply.{Reply}
 use Rattle.review_policy.specs.declared.answer.Reply.TheVariants as reply
-use Rattle.review_policy.specs.Rules.{max_revisions, vote_rules, first_denial}
+use Rattle.review_policy.specs.Rules.{max_revisions, vote_rules, first_denial, behind_caller}
 use Rattle.profile_text.specs.Digest.{digest_of}
 use Rattle.profile_text.specs.Reading.{reading_of}
 use Rattle.profile_text.specs.declared.profile.Profile.{Profile}
@@ -75,7 +75,7 @@ done_numbered : (h : History) → IsLawfulHistory h → (caller : Option UserRow
 done_numbered h lawful caller (ask.Enrol user team roles digest) e = tt
 done_numbered h lawful caller (ask.Submit p document) e = new_numbered h caller p (ask.Submit p document) (reading_of document.items) tt
 done_numbered h lawful caller (ask.Vote p n digest approve) e =
-    number_there h lawful p n (none_refuses 1 (vote_rules (vote_facts caller (revision_of h p n) (is_author h p (name_of caller)) digest)) e).1.1.0
+    number_there h lawful p n (none_refuses 1 (behind_caller (is_none caller) (vote_rules (vote_facts caller (revision_of h p n) (is_author h p (name_of caller)) digest))) e).1.1.0
 done_numbered h lawful caller (ask.ActOnRevision act p n) e =
     let number = number_there h lawful p n (revision_there h caller act p n e) in
     done_to_by (NumberedIn (ask.ActOnRevision act p n)) (revision_of h p n) act (on_revision (name_of caller) act p n) tt (λ told. number)

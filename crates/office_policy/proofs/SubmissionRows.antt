@@ -1,6 +1,6 @@
 -- What is decided of a submission, by what its document reads as.
 use Rattle.std.proofs.Common.{◌≡◌, ◌≢◌, ◌∙◌, ℕ, List, true, false, Some, Ok, Err, refl, ap, Vec, Global}
-use Rattle.std.specs.Prelude.{Result, ⊤, bytes_eq}
+use Rattle.std.specs.Prelude.{Result, ⊤, bytes_eq, is_none}
 use Rattle.profile_text.specs.Reading.{reading_of}
 use Rattle.profile_text.specs.FaultText.{fault_text_of}
 use Rattle.profile_text.specs.declared.profile.Profile.{Profile}
@@ -9,7 +9,7 @@ use Rattle.review_policy.specs.declared.ask.ProfileName.{ProfileName}
 use Rattle.review_policy.specs.declared.ask.Ask.TheVariants as ask
 use Rattle.review_policy.specs.declared.denial.Denial.{Denial}
 use Rattle.review_policy.specs.declared.denial.Rule.TheVariants.{Document}
-use Rattle.review_policy.specs.Rules.{first_denial, submit_rules}
+use Rattle.review_policy.specs.Rules.{first_denial, submit_rules, behind_caller}
 use Rattle.office_policy.specs.History.{History}
 use Rattle.office_policy.specs.Users.{user_of}
 use Rattle.office_policy.specs.Revisions.{last_revision, revision_count}
@@ -20,7 +20,7 @@ use Rattle.office_policy.proofs.UserFacts.{same_bytes, bytes_same}
 
 -- the first rule that refuses a submission of what was read
 abbrev pub decided_on : History → List ℕ → ProfileName → Result Profile DocFault → Result ⊤ Denial
-decided_on h who p reading = first_denial (submit_rules (submit_facts (user_of h who) p.team reading (last_revision h p) (revision_count h p)))
+decided_on h who p reading = first_denial (behind_caller (is_none (user_of h who)) (submit_rules (submit_facts (user_of h who) p.team reading (last_revision h p) (revision_count h p))))
 
 -- a text is its own, and no other
 pub same_text : (text : List ℕ) → bytes_eq text text ≡ true

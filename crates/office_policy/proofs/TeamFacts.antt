@@ -17,7 +17,7 @@ use Rattle.review_policy.specs.declared.answer.Reply.TheVariants as reply
 use Rattle.review_policy.specs.declared.denial.Denial.{Denial}
 use Rattle.review_policy.specs.declared.role.Role.TheVariants.{Security}
 use Rattle.review_policy.specs.Acts.{holds}
-use Rattle.review_policy.specs.Rules.{first_denial, enrol_rules, submit_rules, vote_rules, issue_rules, withdraw_rules, adopt_rules, read_rules, fetch_rules, hold_rules, revisions_rules}
+use Rattle.review_policy.specs.Rules.{first_denial, enrol_rules, submit_rules, vote_rules, issue_rules, withdraw_rules, adopt_rules, read_rules, fetch_rules, hold_rules, revisions_rules, behind_caller}
 use Rattle.review_sheet.specs.Sheet.{sheet_text}
 use Rattle.office_tables.specs.declared.row.UserRow.{UserRow}
 use Rattle.office_tables.specs.declared.row.RevisionRow.{RevisionRow}
@@ -322,19 +322,19 @@ sheet_alone p r h = λ i. record {
 -- ---- verdicts
 
 rules_alone : (h : History) (caller : Option UserRow) (a : Ask) → rules_of (filter (concerns (team_of a)) h) caller a ≡ rules_of h caller a
-rules_alone h caller (ask.Enrol user team roles digest) = λ i. enrol_rules (enrol_facts caller (user_alone team user h i) (showing_alone team digest h i) user team)
-rules_alone h caller (ask.Submit p document) = λ i. submit_rules (submit_facts caller p.team (reading_of document.items) (last_alone p h i) (count_alone p h i))
-rules_alone h caller (ask.Vote p n digest approve) = λ i. vote_rules (vote_facts caller (revision_alone p n h i) (author_alone p (name_of caller) h i) digest)
+rules_alone h caller (ask.Enrol user team roles digest) = λ i. behind_caller (is_none caller) (enrol_rules (enrol_facts caller (user_alone team user h i) (showing_alone team digest h i) user team))
+rules_alone h caller (ask.Submit p document) = λ i. behind_caller (is_none caller) (submit_rules (submit_facts caller p.team (reading_of document.items) (last_alone p h i) (count_alone p h i)))
+rules_alone h caller (ask.Vote p n digest approve) = λ i. behind_caller (is_none caller) (vote_rules (vote_facts caller (revision_alone p n h i) (author_alone p (name_of caller) h i) digest))
 rules_alone h caller (ask.ActOnRevision Issue p n) =
-    λ i. issue_rules (issue_facts caller (revision_alone p n h i) (author_alone p (name_of caller) h i) (tally_alone p n h i) (need_at_alone p n h i) (held_alone p h i))
-rules_alone h caller (ask.ActOnRevision Withdraw p n) = λ i. withdraw_rules (withdraw_facts caller p.team (revision_alone p n h i))
-rules_alone h caller (ask.ActOnRevision Adopt p n) = λ i. adopt_rules (adopt_facts caller (revision_alone p n h i) (author_alone p (name_of caller) h i))
-rules_alone h caller (ask.SeeRevision view p n) = λ i. read_rules (read_facts caller p.team (is_none (revision_alone p n h i)))
+    λ i. behind_caller (is_none caller) (issue_rules (issue_facts caller (revision_alone p n h i) (author_alone p (name_of caller) h i) (tally_alone p n h i) (need_at_alone p n h i) (held_alone p h i)))
+rules_alone h caller (ask.ActOnRevision Withdraw p n) = λ i. behind_caller (is_none caller) (withdraw_rules (withdraw_facts caller p.team (revision_alone p n h i)))
+rules_alone h caller (ask.ActOnRevision Adopt p n) = λ i. behind_caller (is_none caller) (adopt_rules (adopt_facts caller (revision_alone p n h i) (author_alone p (name_of caller) h i)))
+rules_alone h caller (ask.SeeRevision view p n) = λ i. behind_caller (is_none caller) (read_rules (read_facts caller p.team (is_none (revision_alone p n h i))))
 rules_alone h caller (ask.List team) = refl
-rules_alone h caller (ask.SeeProfile view p) = λ i. fetch_rules (fetch_facts caller p.team (issued_alone p h i) (held_alone p h i))
-rules_alone h caller (ask.ActOnProfile act p) = λ i. hold_rules act (hold_facts caller (count_alone p h i == 0) (held_alone p h i))
+rules_alone h caller (ask.SeeProfile view p) = λ i. behind_caller (is_none caller) (fetch_rules (fetch_facts caller p.team (issued_alone p h i) (held_alone p h i)))
+rules_alone h caller (ask.ActOnProfile act p) = λ i. behind_caller (is_none caller) (hold_rules act (hold_facts caller (count_alone p h i == 0) (held_alone p h i)))
 rules_alone h caller ask.Me = refl
-rules_alone h caller (ask.Revisions p before) = λ i. revisions_rules (revisions_facts caller p.team (count_alone p h i == 0))
+rules_alone h caller (ask.Revisions p before) = λ i. behind_caller (is_none caller) (revisions_rules (revisions_facts caller p.team (count_alone p h i == 0)))
 
 new_alone : (h : History) (caller : Option UserRow) (p : ProfileName) (reading : Result Profile DocFault) → new_revision (filter (concerns p.team) h) caller p reading ≡ new_revision h caller p reading
 new_alone h caller p (Err f) = refl

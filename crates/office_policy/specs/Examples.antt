@@ -1,5 +1,5 @@
 -- An office in which things have happened, to show what looking back says of it.
-use Rattle.std.specs.Prelude.{ℕ, List, [], ◌∷◌, true, false, Some, None, codes, map, Result, Err, ⊤}
+use Rattle.std.specs.Prelude.{ℕ, List, [], ◌∷◌, true, false, Some, None, codes, map, Result, Err, ⊤, is_none}
 use Rattle.cap_sets.specs.declared.state.CapState.{CapState}
 use Rattle.cap_sets.proofs.Bits.{none_in_zero}
 use Rattle.seccomp_doc.specs.declared.action.Action.TheVariants.{Allow, Errno}
@@ -17,7 +17,7 @@ use Rattle.review_policy.specs.declared.denial.Need.{Need}
 use Rattle.review_policy.specs.declared.denial.Rule.{Rule}
 use Rattle.review_policy.specs.declared.revision.State.{State}
 use Rattle.review_policy.specs.declared.revision.State.TheVariants.{Open}
-use Rattle.review_policy.specs.Rules.{first_denial, submit_rules, vote_rules, issue_rules}
+use Rattle.review_policy.specs.Rules.{first_denial, submit_rules, vote_rules, issue_rules, behind_caller}
 use Rattle.office_tables.specs.declared.row.RevisionRow.{RevisionRow}
 use Rattle.office_policy.specs.History.{Event, founded, enrolled, submitted, voted, issued}
 use Rattle.office_policy.specs.History.{withdrawn, adopted, on_profile, History}
@@ -224,9 +224,10 @@ told h who a = verdict_of h (user_of h who) a
 abbrev pub issue_by : List ℕ → History → Need → ℕ → Result ⊤ Denial
 issue_by who h need n =
     first_denial
+    (behind_caller (is_none (user_of h who))
     (issue_rules
     (issue_facts (user_of h who) (revision_of h web n) (is_author h web who) (tally_at h web n) need
-    (is_held h web)))
+    (is_held h web))))
 
 abbrev pub issue : History → Need → ℕ → Result ⊤ Denial
 issue h need n = issue_by iss h need n
@@ -238,13 +239,17 @@ approving n = ask.Vote web n (9 ∷ []) true
 -- the first rule that refuses what ann submits for a team, where that is no document
 abbrev pub submitting_none : History → List ℕ → Result ⊤ Denial
 submitting_none h team =
-    first_denial (submit_rules (submit_facts (user_of h ann) team (Err TooLong) None 0))
+    first_denial
+    (behind_caller (is_none (user_of h ann))
+    (submit_rules (submit_facts (user_of h ann) team (Err TooLong) None 0)))
 
 -- the first rule that refuses rev's vote naming a digest, on an open revision with the digest 9, if
 -- any
 abbrev pub vote_naming : List ℕ → Result ⊤ Denial
 vote_naming digest =
-    first_denial (vote_rules (vote_facts (user_of office rev) (Some row) false digest))
+    first_denial
+    (behind_caller (is_none (user_of office rev))
+    (vote_rules (vote_facts (user_of office rev) (Some row) false digest)))
   where
     row : RevisionRow
     row = record { number = 1; author = ann; state = Open; body = text; digest = 9 ∷ [] }

@@ -55,7 +55,6 @@ sees_every_team user =
 -- of an enrolment: the user that has the name now, and the one that shows the digest
 abbrev pub enrol_facts : (caller known shower : Option UserRow) → (user team : List ℕ) → EnrolFacts
 enrol_facts caller known shower user team = record {
-  caller_unknown = is_none caller;
   role_missing = not (holds_role caller Registrar);
   own_row = is_named caller user;
   team_fixed = is_elsewhere known team;
@@ -67,7 +66,6 @@ module _ (caller : Option UserRow) where
   abbrev pub submit_facts : (team : List ℕ) → Result Profile DocFault → (last : Option RevisionRow)
       → (revisions : ℕ) → SubmitFacts
   submit_facts team reading last revisions = record {
-    caller_unknown = is_none caller;
     role_missing = not (holds_role caller Author);
     other_team = not (is_of_team caller team);
     document = is_err reading;
@@ -79,7 +77,6 @@ module _ (caller : Option UserRow) where
   -- named
   abbrev pub vote_facts : Option RevisionRow → (author : Bool) → (digest : List ℕ) → VoteFacts
   vote_facts revision author digest = record {
-    caller_unknown = is_none caller;
     role_missing = not (holds_role caller Reviewer);
     state = state_in revision;
     author_votes = author;
@@ -91,7 +88,6 @@ module _ (caller : Option UserRow) where
   abbrev pub issue_facts : Option RevisionRow → (author : Bool) → Tally → Need → (held : Bool)
       → IssueFacts
   issue_facts revision author tally need held = record {
-    caller_unknown = is_none caller;
     role_missing = not (holds_role caller Issuer);
     state = state_in revision;
     author_issues = author;
@@ -105,7 +101,6 @@ module _ (caller : Option UserRow) where
   -- of a withdrawal: the revision of the team's
   abbrev pub withdraw_facts : (team : List ℕ) → Option RevisionRow → WithdrawFacts
   withdraw_facts team revision = record {
-    caller_unknown = is_none caller;
     role_missing = not (holds_role caller Author || holds_role caller Security);
     other_team = not (is_of_team caller team || holds_role caller Security);
     state = state_in revision;
@@ -114,7 +109,6 @@ module _ (caller : Option UserRow) where
   -- of an adoption: the revision, and whether the caller is an author of its profile
   abbrev pub adopt_facts : Option RevisionRow → (author : Bool) → AdoptFacts
   adopt_facts revision author = record {
-    caller_unknown = is_none caller;
     role_missing = not (holds_role caller Security);
     state = state_in revision;
     author_adopts = author;
@@ -123,7 +117,6 @@ module _ (caller : Option UserRow) where
   -- of a read: of a team alone, or of a revision of a team's profile
   abbrev pub read_facts : (team : List ℕ) → (no_revision : Bool) → ReadFacts
   read_facts team no_revision = record {
-    caller_unknown = is_none caller;
     role_missing = not (holds_role caller Author || sees_every_team caller);
     other_team = not (is_of_team caller team || sees_every_team caller);
     no_revision = no_revision;
@@ -134,7 +127,6 @@ module _ (caller : Option UserRow) where
   abbrev pub fetch_facts : (team : List ℕ) → (issued : Option RevisionRow) → (held : Bool)
       → FetchFacts
   fetch_facts team issued held = record {
-    caller_unknown = is_none caller;
     role_missing = not (holds_role caller Machine);
     other_team = not (is_of_team caller team);
     nothing_issued = is_none issued;
@@ -144,7 +136,6 @@ module _ (caller : Option UserRow) where
   -- of an act on a profile: whether that has no revision, and whether it is held
   abbrev pub hold_facts : (no_profile held : Bool) → HoldFacts
   hold_facts no_profile held = record {
-    caller_unknown = is_none caller;
     role_missing = not (holds_role caller Security);
     no_profile = no_profile;
     held = held;
@@ -153,7 +144,6 @@ module _ (caller : Option UserRow) where
   -- of the revisions of a team's profile: whether it has none
   abbrev pub revisions_facts : (team : List ℕ) → (no_profile : Bool) → RevisionsFacts
   revisions_facts team no_profile = record {
-    caller_unknown = is_none caller;
     role_missing = not (holds_role caller Author || sees_every_team caller);
     other_team = not (is_of_team caller team || sees_every_team caller);
     no_profile = no_profile;

@@ -60,7 +60,7 @@ module _ {X : Type 0} (m : Meaning X) where
     pub office : (h : History) → m.is_of h old → m.is_of h new
     pub kept : m.is_clean new → m.keeps old new
     pub crash : m.is_clean new → (left : m.Left) → m.may_leave new left → m.may_leave old left
-    -- and no event was written down
+    -- no event was written down
     pub adds : m.is_clean new → m.adds no_entry old new
     pub strays : (e : Event) → m.is_stray e new → m.is_stray e old
 

@@ -37,7 +37,7 @@ abbrev pub is_before : Option ℕ → RevisionRow → Bool
 is_before None r = true
 is_before (Some n) r = nat_lt r.number n
 
--- those of them that have a number below this one, where one is given
+-- the revisions of a profile that have a number below this one, where one is given
 abbrev pub revisions_before : History → ProfileName → Option ℕ → List RevisionRow
 revisions_before h p before = filter (is_before before) (revisions_of h p)
 

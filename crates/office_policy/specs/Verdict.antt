@@ -1,5 +1,5 @@
 -- What the policy says of a request, by looking back over what has happened.
-use Rattle.std.specs.Prelude.{ℕ, suc, List, Bool, false, ⊤, ◌==◌, Option, Some, None, is_none}
+use Rattle.std.specs.Prelude.{ℕ, suc, List, Bool, false, ⊤, ◌==◌, Option, Some, None, is_none, []}
 use Rattle.std.specs.Prelude.{Result, Ok, Err}
 use Rattle.profile_text.specs.Digest.{digest_of}
 use Rattle.review_policy.specs.declared.act.ProfileView.{ProfileView}
@@ -19,8 +19,8 @@ use Rattle.review_policy.specs.declared.denial.Rule.{Rule}
 use Rattle.review_policy.specs.declared.denial.Rule.TheVariants.{Document, NoRevision}
 use Rattle.review_policy.specs.Rules.{first_denial, enrol_rules, submit_rules, vote_rules}
 use Rattle.review_policy.specs.Rules.{issue_rules, withdraw_rules, adopt_rules, read_rules}
-use Rattle.review_policy.specs.Rules.{fetch_rules, hold_rules, me_rules}
-use Rattle.review_policy.specs.Rules.{revisions_rules}
+use Rattle.review_policy.specs.Rules.{fetch_rules, hold_rules}
+use Rattle.review_policy.specs.Rules.{revisions_rules, behind_caller}
 use Rattle.profile_text.specs.declared.profile.Profile.{Profile}
 use Rattle.profile_text.specs.declared.fault.DocFault.{DocFault}
 use Rattle.profile_text.specs.Reading.{reading_of}
@@ -93,34 +93,38 @@ given_of Fetch r = reply.Fetched r.digest r.body r.number
 given_of Issued r = reply.IssuedNow r.digest r.number
 
 module _ (h : History) where
-  -- the rules of a request, in order, each with whether it refuses
-  abbrev pub rules_of : Option UserRow → Ask → List (Rule × Bool)
-  rules_of caller (ask.Enrol user team roles digest) =
+  -- the rules of a request behind the first, in order, each with whether it refuses
+  abbrev pub rules_behind : Option UserRow → Ask → List (Rule × Bool)
+  rules_behind caller (ask.Enrol user team roles digest) =
       enrol_rules (enrol_facts caller (user_of h user) (user_showing h digest) user team)
-  rules_of caller (ask.Submit p document) =
+  rules_behind caller (ask.Submit p document) =
       submit_rules
       (submit_facts caller p.team (reading_of document.items) (last_revision h p)
       (revision_count h p))
-  rules_of caller (ask.Vote p n digest approve) =
+  rules_behind caller (ask.Vote p n digest approve) =
       vote_rules (vote_facts caller (revision_of h p n) (is_author h p (name_of caller)) digest)
-  rules_of caller (ask.ActOnRevision Issue p n) =
+  rules_behind caller (ask.ActOnRevision Issue p n) =
       issue_rules
       (issue_facts caller (revision_of h p n) (is_author h p (name_of caller)) (tally_at h p n)
       (need_at h p n) (is_held h p))
-  rules_of caller (ask.ActOnRevision Withdraw p n) =
+  rules_behind caller (ask.ActOnRevision Withdraw p n) =
       withdraw_rules (withdraw_facts caller p.team (revision_of h p n))
-  rules_of caller (ask.ActOnRevision Adopt p n) =
+  rules_behind caller (ask.ActOnRevision Adopt p n) =
       adopt_rules (adopt_facts caller (revision_of h p n) (is_author h p (name_of caller)))
-  rules_of caller (ask.SeeRevision view p n) =
+  rules_behind caller (ask.SeeRevision view p n) =
       read_rules (read_facts caller p.team (is_none (revision_of h p n)))
-  rules_of caller (ask.List team) = read_rules (read_facts caller team false)
-  rules_of caller (ask.SeeProfile view p) =
+  rules_behind caller (ask.List team) = read_rules (read_facts caller team false)
+  rules_behind caller (ask.SeeProfile view p) =
       fetch_rules (fetch_facts caller p.team (issued_revision h p) (is_held h p))
-  rules_of caller (ask.ActOnProfile act p) =
+  rules_behind caller (ask.ActOnProfile act p) =
       hold_rules act (hold_facts caller (revision_count h p == 0) (is_held h p))
-  rules_of caller ask.Me = me_rules (is_none caller)
-  rules_of caller (ask.Revisions p before) =
+  rules_behind caller ask.Me = []
+  rules_behind caller (ask.Revisions p before) =
       revisions_rules (revisions_facts caller p.team (revision_count h p == 0))
+
+  -- the rules of a request, of which the first refuses a caller whom nobody knows
+  abbrev pub rules_of : Option UserRow → Ask → List (Rule × Bool)
+  rules_of caller a = behind_caller (is_none caller) (rules_behind caller a)
 
   -- what is done where none refuses
   abbrev pub done_of : Option UserRow → Ask → Verdict

@@ -58,8 +58,8 @@ pub fn what_is_allowed_is_of_its_caller()
 
 /// What happens where a request is carried out is just what was asked, by its caller: an enrolment
 /// with these roles and this digest; a vote on this revision, by this digest, that approves or
-/// rejects as it was cast; an issue, a withdrawal or an adoption of this revision. Where something
-/// is only looked at, nothing happens.
+/// rejects as it was cast; an act on this revision. Where something is only looked at, nothing
+/// happens.
 pub fn what_happens_was_asked()
     ensures { (h : History) (r : Request) (reply : Reply) (e : Option Event) → verdict h r
         ≡ accepted reply e → IsAsked (name_of (user_showing h (digest_of r.token))) r.ask e }

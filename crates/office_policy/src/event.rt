@@ -1,7 +1,7 @@
 //! What happens in an office, as values of a program.
 
-ghost use Rattle.std.specs.Prelude.{◌≡◌, option_map};
-ghost use Rattle.office_policy.specs.Callers.{caller_of, doer_of};
+ghost use Rattle.std.specs.Prelude.{◌≡◌};
+ghost use Rattle.office_policy.specs.Callers.{doer_of};
 ghost use Rattle.office_policy.specs.Happened.{event_meant};
 
 use crate::deed::Deed;
@@ -27,16 +27,6 @@ pub enum Event {
 }
 
 impl Event {
-    /// The name of who asked for it; nobody asks for a founding.
-    pub fn caller(&self) -> Option<&Word>
-        ensures { option_map (λ name. name.now) result ≡ caller_of (event_meant self.now) }
-    {
-        match self {
-            Event::Founded { .. } => None,
-            Event::Did { caller, .. } => Some(caller),
-        }
-    }
-
     /// The name of who did it: the caller, or who was founded.
     pub fn doer(&self) -> &Word
         ensures { result.now ≡ doer_of (event_meant self.now) }

@@ -14,8 +14,8 @@ pub fn the_last_event_is_shown()
 {}
 
 /// Where the tables show an event that may happen next, they stay what they are when it happens:
-/// a user has that row already, a voter has that vote, a team that baseline. No submission, issue
-/// or withdrawal that is allowed is shown before it happens.
+/// a user has that row already, a voter has that vote, a team that baseline. What changes a revision
+/// is never shown before it happens.
 pub fn what_is_shown_before_changes_nothing()
     ensures { (h : History) (e : Event) → IsLawfulHistory (e ∷ h) → Shows (tables_of h) e
         → tables_of (e ∷ h) ≡ tables_of h }

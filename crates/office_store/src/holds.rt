@@ -23,7 +23,7 @@ pub(crate) const DELETE_HOLD: &str = "DELETE FROM holds WHERE team = ?1 AND prof
 pub(crate) const INSERT_HOLD: &str = "INSERT INTO holds (team, profile) VALUES (?1, ?2)";
 
 /// Whether a profile is held.
-pub fn held<S: Alter>(conn: &mut Connection<S>, profile: &ProfileName) -> Result<bool, Fault>
+pub fn is_held<S: Alter>(conn: &mut Connection<S>, profile: &ProfileName) -> Result<bool, Fault>
     requires { IsIdle (state S.Store conn.old) }
     ensures read { Reads S.Store conn.old conn.new result (λ t held. held ≡ t.holds profile.now) }
     ensures told { ReadsFirst S.Store conn.old conn.new

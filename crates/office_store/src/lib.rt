@@ -28,7 +28,7 @@ pub use author::{authors, is_author};
 pub use baselines::{Adopted, baseline, put_baseline};
 pub use briefs::{Brief, issued_brief};
 pub use column::{bytes_of, number_at, word_at};
-pub use holds::{delete_hold, held, put_hold};
+pub use holds::{delete_hold, is_held, put_hold};
 pub use listing::revisions_of;
 pub use newest::newest_below;
 pub use numbers::{Numbered, issued_number, last_numbered};

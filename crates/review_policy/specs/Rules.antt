@@ -1,4 +1,5 @@
--- The rules of each request, in the order in which they are asked, each with whether it refuses.
+-- The rules of each request behind the first, which asks for a known caller of every request: in the
+-- order in which they are asked, each with whether it refuses.
 use Rattle.std.specs.Prelude.{ℕ, suc, List, [], ◌∷◌, Bool, true, false, not, ◌||◌, ◌&&◌, nat_lt}
 use Rattle.std.specs.Prelude.{nat_le, ◌==◌, if◌then◌else◌, Option, Some, is_none, Result, Ok, Err}
 use Rattle.std.specs.Prelude.{⊤}
@@ -19,6 +20,7 @@ use Rattle.review_policy.specs.declared.denial.Rule.TheVariants.{NotStanding, Au
 use Rattle.review_policy.specs.declared.denial.Rule.TheVariants.{NotIssued, NothingIssued}
 use Rattle.review_policy.specs.declared.denial.Rule.TheVariants.{NoProfile, AlreadyHeld, NotHeld}
 use Rattle.review_policy.specs.declared.denial.Rule.TheVariants.{Held}
+use Rattle.review_policy.specs.declared.revision.TheConstants.{MAX_LISTED, MAX_REVISIONS}
 use Rattle.review_policy.specs.declared.revision.State.{State}
 use Rattle.review_policy.specs.declared.revision.State.TheVariants.{Open, Issued}
 use Rattle.review_policy.specs.declared.facts.EnrolFacts.{EnrolFacts}
@@ -34,11 +36,11 @@ use Rattle.review_policy.specs.declared.facts.RevisionsFacts.{RevisionsFacts}
 
 -- the greatest number of revisions of a profile
 abbrev pub max_revisions : ℕ
-max_revisions = 9999
+max_revisions = MAX_REVISIONS
 
 -- the greatest number of revisions in one list of a profile's
 abbrev pub max_listed : ℕ
-max_listed = 100
+max_listed = MAX_LISTED
 
 -- a revision that is there and open
 abbrev pub is_open : Option State → Bool
@@ -69,11 +71,14 @@ abbrev pub asks_security : Need → Bool
 asks_security One = false
 asks_security TwoWithSecurity = true
 
+-- the rules of a request behind the first one, which refuses a caller whom nobody knows
+abbrev pub behind_caller : (unknown : Bool) → List (Rule × Bool) → List (Rule × Bool)
+behind_caller unknown rules = (CallerUnknown, unknown) ∷ rules
+
 -- a registrar enrols another user, whose team stays, with a token that no other user shows
 abbrev pub enrol_rules : EnrolFacts → List (Rule × Bool)
 enrol_rules f =
-    (CallerUnknown, f.caller_unknown)
-    ∷ (RoleMissing, f.role_missing)
+    (RoleMissing, f.role_missing)
     ∷ (OwnRow, f.own_row)
     ∷ (TeamFixed, f.team_fixed)
     ∷ (TokenTaken, f.token_taken)
@@ -82,8 +87,7 @@ enrol_rules f =
 -- an author hands in a document of the own team, which isn't the open one again
 abbrev pub submit_rules : SubmitFacts → List (Rule × Bool)
 submit_rules f =
-    (CallerUnknown, f.caller_unknown)
-    ∷ (RoleMissing, f.role_missing)
+    (RoleMissing, f.role_missing)
     ∷ (OtherTeam, f.other_team)
     ∷ (Document, f.document)
     ∷ (SameAsOpen, f.same_as_open)
@@ -93,8 +97,7 @@ submit_rules f =
 -- a reviewer who is no author of the profile votes on the open revision, naming its text's digest
 abbrev pub vote_rules : VoteFacts → List (Rule × Bool)
 vote_rules f =
-    (CallerUnknown, f.caller_unknown)
-    ∷ (RoleMissing, f.role_missing)
+    (RoleMissing, f.role_missing)
     ∷ (NoRevision, is_none f.state)
     ∷ (AuthorVotes, f.author_votes)
     ∷ (NotOpen, not (is_open f.state))
@@ -105,8 +108,7 @@ vote_rules f =
 -- approve, unless it is held
 abbrev pub issue_rules : IssueFacts → List (Rule × Bool)
 issue_rules f =
-    (CallerUnknown, f.caller_unknown)
-    ∷ (RoleMissing, f.role_missing)
+    (RoleMissing, f.role_missing)
     ∷ (NoRevision, is_none f.state)
     ∷ (AuthorIssues, f.author_issues)
     ∷ (NotOpen, not (is_open f.state))
@@ -119,8 +121,7 @@ issue_rules f =
 -- an author of the team, or security, takes back a revision that is open or issued
 abbrev pub withdraw_rules : WithdrawFacts → List (Rule × Bool)
 withdraw_rules f =
-    (CallerUnknown, f.caller_unknown)
-    ∷ (RoleMissing, f.role_missing)
+    (RoleMissing, f.role_missing)
     ∷ (OtherTeam, f.other_team)
     ∷ (NoRevision, is_none f.state)
     ∷ (NotStanding, not (is_standing f.state))
@@ -129,8 +130,7 @@ withdraw_rules f =
 -- security that is no author of the profile makes an issued revision the baseline of its team
 abbrev pub adopt_rules : AdoptFacts → List (Rule × Bool)
 adopt_rules f =
-    (CallerUnknown, f.caller_unknown)
-    ∷ (RoleMissing, f.role_missing)
+    (RoleMissing, f.role_missing)
     ∷ (NoRevision, is_none f.state)
     ∷ (AuthorAdopts, f.author_adopts)
     ∷ (NotIssued, not (is_issued f.state))
@@ -139,8 +139,7 @@ adopt_rules f =
 -- show, sheet and list: an author of the team, or a reviewer, security or an issuer, looks at it
 abbrev pub read_rules : ReadFacts → List (Rule × Bool)
 read_rules f =
-    (CallerUnknown, f.caller_unknown)
-    ∷ (RoleMissing, f.role_missing)
+    (RoleMissing, f.role_missing)
     ∷ (OtherTeam, f.other_team)
     ∷ (NoRevision, f.no_revision)
     ∷ []
@@ -148,8 +147,7 @@ read_rules f =
 -- fetch and issued: a machine of the team gets what is issued, unless the profile is held
 abbrev pub fetch_rules : FetchFacts → List (Rule × Bool)
 fetch_rules f =
-    (CallerUnknown, f.caller_unknown)
-    ∷ (RoleMissing, f.role_missing)
+    (RoleMissing, f.role_missing)
     ∷ (OtherTeam, f.other_team)
     ∷ (NothingIssued, f.nothing_issued)
     ∷ (Held, f.held)
@@ -163,21 +161,15 @@ hold_rule Release held = (NotHeld, not held)
 -- security holds a profile, or releases it
 abbrev pub hold_rules : ProfileAct → HoldFacts → List (Rule × Bool)
 hold_rules act f =
-    (CallerUnknown, f.caller_unknown)
-    ∷ (RoleMissing, f.role_missing)
+    (RoleMissing, f.role_missing)
     ∷ (NoProfile, f.no_profile)
     ∷ hold_rule act f.held
     ∷ []
 
--- every user sees who that is
-abbrev pub me_rules : (caller_unknown : Bool) → List (Rule × Bool)
-me_rules caller_unknown = (CallerUnknown, caller_unknown) ∷ []
-
 -- an author of the team, or a reviewer, security or an issuer, looks at the revisions of a profile
 abbrev pub revisions_rules : RevisionsFacts → List (Rule × Bool)
 revisions_rules f =
-    (CallerUnknown, f.caller_unknown)
-    ∷ (RoleMissing, f.role_missing)
+    (RoleMissing, f.role_missing)
     ∷ (OtherTeam, f.other_team)
     ∷ (NoProfile, f.no_profile)
     ∷ []
@@ -191,3 +183,7 @@ first_from number ((rule, refuses) ∷ rules) =
 -- the first rule that refuses, numbered by its place from 1
 abbrev pub first_denial : List (Rule × Bool) → Result ⊤ Denial
 first_denial rules = first_from 1 rules
+
+-- the first rule that refuses a caller who is known, where these stand behind the first
+abbrev pub known_denial : List (Rule × Bool) → Result ⊤ Denial
+known_denial rules = first_denial (behind_caller false rules)

@@ -1,10 +1,10 @@
-//! The decisions: the first rule that refuses a request, by its facts.
+//! The decisions: the first rule that refuses the request of a caller who is known, by its facts.
 
 ghost use Rattle.std.specs.Prelude.{◌≡◌, ◌≤◌, List, Bool, false, length, not};
 ghost use Rattle.review_policy.specs.FirstRefusal.{IsDecision, any_refuses};
 ghost use Rattle.review_policy.specs.Rules.{first_denial, need_of, is_open, is_issued, enrol_rules};
 ghost use Rattle.review_policy.specs.Rules.{submit_rules, vote_rules, issue_rules, withdraw_rules};
-ghost use Rattle.review_policy.specs.Rules.{adopt_rules, fetch_rules, hold_rules};
+ghost use Rattle.review_policy.specs.Rules.{adopt_rules, fetch_rules, hold_rules, known_denial};
 ghost use Rattle.review_policy.specs.declared.facts.TheConstants.EnrolFacts as enrol_facts;
 ghost use Rattle.review_policy.specs.declared.facts.TheConstants.SubmitFacts as submit_facts;
 ghost use Rattle.review_policy.specs.declared.facts.TheConstants.VoteFacts as vote_facts;
@@ -75,12 +75,13 @@ pub fn no_rule_refuses_passing_facts()
         ≡ false }
 {}
 
-// The first rule that refuses, numbered by its place. Each rule stands with whether it refuses.
+// The first rule that refuses a caller who is known, by its place behind the rule that asks for that
+// alone. Each rule stands with whether it refuses.
 fn first_denial(rules: &[(Rule, bool)]) -> Result<(), Denial>
-    requires { length rules.now ≤ 255 }
-    ensures { result ≡ first_denial rules.now }
+    requires { length rules.now ≤ 254 }
+    ensures { result ≡ known_denial rules.now }
 {
-    let mut number = 0;
+    let mut number = 1;
     for (rule, refuses) in rules {
         number += 1;
         if *refuses {

@@ -7,8 +7,6 @@ use crate::revision::State;
 /// What the rules of enrol ask.
 #[derive(Clone, Copy)]
 pub struct EnrolFacts {
-    /// No user's present token is the one that is shown.
-    pub caller_unknown: bool,
     /// The caller is no registrar.
     pub role_missing: bool,
     /// The user to be enrolled is the caller.
@@ -22,7 +20,6 @@ pub struct EnrolFacts {
 impl EnrolFacts {
     /// Facts that every rule of enrol lets pass, to stand for those that aren't looked up yet.
     pub const PASSING: EnrolFacts = EnrolFacts {
-        caller_unknown: false,
         role_missing: false,
         own_row: false,
         team_fixed: false,
@@ -33,8 +30,6 @@ impl EnrolFacts {
 /// What the rules of submit ask.
 #[derive(Clone, Copy)]
 pub struct SubmitFacts {
-    /// No user's present token is the one that is shown.
-    pub caller_unknown: bool,
     /// The caller is no author.
     pub role_missing: bool,
     /// The team isn't the caller's.
@@ -50,7 +45,6 @@ pub struct SubmitFacts {
 impl SubmitFacts {
     /// Facts that every rule of submit lets pass, to stand for those that aren't looked up yet.
     pub const PASSING: SubmitFacts = SubmitFacts {
-        caller_unknown: false,
         role_missing: false,
         other_team: false,
         document: false,
@@ -62,8 +56,6 @@ impl SubmitFacts {
 /// What the rules of vote ask.
 #[derive(Clone, Copy)]
 pub struct VoteFacts {
-    /// No user's present token is the one that is shown.
-    pub caller_unknown: bool,
     /// The caller is no reviewer.
     pub role_missing: bool,
     /// The state of the revision, if there is one of this number.
@@ -77,7 +69,6 @@ pub struct VoteFacts {
 impl VoteFacts {
     /// Facts that every rule of vote lets pass, to stand for those that aren't looked up yet.
     pub const PASSING: VoteFacts = VoteFacts {
-        caller_unknown: false,
         role_missing: false,
         state: Some(State::Open),
         author_votes: false,
@@ -88,8 +79,6 @@ impl VoteFacts {
 /// What the rules of issue ask.
 #[derive(Clone, Copy)]
 pub struct IssueFacts {
-    /// No user's present token is the one that is shown.
-    pub caller_unknown: bool,
     /// The caller is no issuer.
     pub role_missing: bool,
     /// The state of the revision, if there is one of this number.
@@ -112,7 +101,6 @@ pub struct IssueFacts {
 impl IssueFacts {
     /// Facts that every rule of issue lets pass, to stand for those that aren't looked up yet.
     pub const PASSING: IssueFacts = IssueFacts {
-        caller_unknown: false,
         role_missing: false,
         state: Some(State::Open),
         author_issues: false,
@@ -127,8 +115,6 @@ impl IssueFacts {
 /// What the rules of withdraw ask.
 #[derive(Clone, Copy)]
 pub struct WithdrawFacts {
-    /// No user's present token is the one that is shown.
-    pub caller_unknown: bool,
     /// The caller is neither author nor security.
     pub role_missing: bool,
     /// The team isn't the caller's, who isn't security.
@@ -140,7 +126,6 @@ pub struct WithdrawFacts {
 impl WithdrawFacts {
     /// Facts that every rule of withdraw lets pass, to stand for those that aren't looked up yet.
     pub const PASSING: WithdrawFacts = WithdrawFacts {
-        caller_unknown: false,
         role_missing: false,
         other_team: false,
         state: Some(State::Open),
@@ -150,8 +135,6 @@ impl WithdrawFacts {
 /// What the rules of adopt ask.
 #[derive(Clone, Copy)]
 pub struct AdoptFacts {
-    /// No user's present token is the one that is shown.
-    pub caller_unknown: bool,
     /// The caller isn't security.
     pub role_missing: bool,
     /// The state of the revision, if there is one of this number.
@@ -163,7 +146,6 @@ pub struct AdoptFacts {
 impl AdoptFacts {
     /// Facts that every rule of adopt lets pass, to stand for those that aren't looked up yet.
     pub const PASSING: AdoptFacts = AdoptFacts {
-        caller_unknown: false,
         role_missing: false,
         state: Some(State::Issued),
         author_adopts: false,
@@ -173,8 +155,6 @@ impl AdoptFacts {
 /// What the rules of show, sheet and list ask.
 #[derive(Clone, Copy)]
 pub struct ReadFacts {
-    /// No user's present token is the one that is shown.
-    pub caller_unknown: bool,
     /// The caller is none of author, reviewer, security and issuer.
     pub role_missing: bool,
     /// The team isn't the caller's, who is none of reviewer, security and issuer.
@@ -186,8 +166,6 @@ pub struct ReadFacts {
 /// What the rules of fetch and issued ask.
 #[derive(Clone, Copy)]
 pub struct FetchFacts {
-    /// No user's present token is the one that is shown.
-    pub caller_unknown: bool,
     /// The caller is no machine.
     pub role_missing: bool,
     /// The team isn't the caller's.
@@ -201,7 +179,6 @@ pub struct FetchFacts {
 impl FetchFacts {
     /// Facts that every rule of fetch lets pass, to stand for those that aren't looked up yet.
     pub const PASSING: FetchFacts = FetchFacts {
-        caller_unknown: false,
         role_missing: false,
         other_team: false,
         nothing_issued: false,
@@ -212,8 +189,6 @@ impl FetchFacts {
 /// What the rules of holds ask, and of their ends.
 #[derive(Clone, Copy)]
 pub struct HoldFacts {
-    /// No user's present token is the one that is shown.
-    pub caller_unknown: bool,
     /// The caller isn't security.
     pub role_missing: bool,
     /// The profile has no revision.
@@ -226,7 +201,6 @@ impl HoldFacts {
     /// Facts that every rule of a hold lets pass, to stand for those that aren't looked up yet. Of
     /// the end of a hold the profile has to be held too.
     pub const PASSING: HoldFacts = HoldFacts {
-        caller_unknown: false,
         role_missing: false,
         no_profile: false,
         held: false,
@@ -236,8 +210,6 @@ impl HoldFacts {
 /// What the rules of revisions ask.
 #[derive(Clone, Copy)]
 pub struct RevisionsFacts {
-    /// No user's present token is the one that is shown.
-    pub caller_unknown: bool,
     /// The caller is none of author, reviewer, security and issuer.
     pub role_missing: bool,
     /// The team isn't the caller's, who is none of reviewer, security and issuer.

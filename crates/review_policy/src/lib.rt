@@ -19,17 +19,9 @@ pub mod word;
 pub use act::{ProfileAct, ProfileView, RevisionAct, RevisionView};
 pub use answer::{Answer, ListedProfile, Listing, ProfileRevision, Reply, RevisionList};
 pub use ask::{Ask, ProfileName, Request};
-pub use decide::{
-    decide_adopt, decide_enrol, decide_fetch, decide_hold, decide_issue, decide_read,
-    decide_revisions, decide_submit, decide_vote, decide_withdraw, need,
-    no_rule_refuses_passing_facts, the_first_refusing_rule_is_named,
-};
+pub use decide::{need, no_rule_refuses_passing_facts, the_first_refusing_rule_is_named};
 pub use denial::{Denial, Need, Rule};
 pub use digest::digest_from_hex;
-pub use facts::{
-    AdoptFacts, EnrolFacts, FetchFacts, HoldFacts, IssueFacts, ReadFacts, RevisionsFacts,
-    SubmitFacts, VoteFacts, WithdrawFacts,
-};
 pub use fault::Fault;
 pub use revision::{MAX_LISTED, MAX_REVISIONS, State, VoteRow};
 pub use role::{Role, Roles, each_role_is_listed};

@@ -7,7 +7,7 @@ use cap_sets::Caps;
 use no_memory::NoMemory;
 use office_founding::{FoundingFault, check_office, found, listed, migrate};
 use office_store::{
-    Ballot, add_revision, authors, baseline, delete_hold, has_revision, held, is_author, issued,
+    Ballot, add_revision, authors, baseline, delete_hold, has_revision, is_author, is_held, issued,
     last, put_baseline, put_hold, put_user, put_vote, revision, revisions_of, set_issued,
     set_withdrawn, standing, tally, user_by_name, user_by_token,
 };
@@ -291,7 +291,7 @@ fn profile_answer<S: Alter>(
     match call {
         "baseline" => text(alloc, baseline(alloc, conn, &profile.team)),
         "put_baseline" => text(alloc, put_baseline(conn, profile, subject.number)),
-        "held" => text(alloc, held(conn, profile)),
+        "held" => text(alloc, is_held(conn, profile)),
         "put_hold" => text(alloc, put_hold(conn, profile)),
         "delete_hold" => text(alloc, delete_hold(conn, profile)),
         _ => text(alloc, "no call"),

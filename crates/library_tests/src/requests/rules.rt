@@ -1,8 +1,8 @@
 //! Rules by facts that no conversation brings about.
 
-use review_policy::{
-    Denial, IssueFacts, Need, Rule, SubmitFacts, decide_issue, decide_submit, need,
-};
+use review_policy::decide::{decide_issue, decide_submit};
+use review_policy::facts::{IssueFacts, SubmitFacts};
+use review_policy::{Denial, Need, Rule, need};
 use std::alloc::AllocError;
 
 // What is decided of a submission where the last revision has this number.

@@ -7,7 +7,7 @@ use crate::office::founded::{at_rest, founded, founded_in, reopened};
 use crate::office::openings::{not_opened, run};
 use crate::office::votes::web;
 use office_founding::{MigrationFault, OpeningFault, migrate};
-use office_store::held;
+use office_store::is_held;
 use review_policy::Fault;
 use sqlite::{Alter, Connection};
 use std::alloc::Global;
@@ -37,12 +37,12 @@ const TOLD: &str = concat!(
 );
 
 // Whether blue/web is held.
-fn is_held<S: Alter>(alloc: Global, conn: &mut Connection<S>) -> Result<bool, Fail>
+fn is_web_held<S: Alter>(alloc: Global, conn: &mut Connection<S>) -> Result<bool, Fail>
     requires { IsIdle (state S.Store conn.old) }
     ensures { IsIdle (state S.Store conn.new) }
 {
     let name = web(alloc)?;
-    Ok(held(conn, &name)?)
+    Ok(is_held(conn, &name)?)
 }
 
 // Migrates an office, of which nothing more is said.
@@ -62,7 +62,7 @@ fn assert_migrated_once<S: Alter + Drop>(
     let mut conn = not_opened(rt, conn, OpeningFault::OldSchema)?;
     assert_eq!(rt; migrated(&mut conn), Ok(()));
     assert_eq!(rt; migrated(&mut conn), Err(MigrationFault::AlreadyMigrated));
-    assert!(rt; !is_held(alloc, &mut conn)?);
+    assert!(rt; !is_web_held(alloc, &mut conn)?);
     reopened(rt, alloc, conn, ASKED, TOLD)?;
     Ok(())
 }

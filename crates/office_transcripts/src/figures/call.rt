@@ -9,7 +9,7 @@ use anyhow::Result;
 use cap_sets::Caps;
 use office_founding::{OpeningFault, check_office, listed};
 use office_store::{
-    Ballot, add_revision, baseline, delete_hold, first_listed, has_revision, held, is_author,
+    Ballot, add_revision, baseline, delete_hold, first_listed, has_revision, is_author, is_held,
     issued, issued_number, last, last_numbered, next_listed, put_baseline, put_hold, put_user,
     put_vote, revision, set_issued, set_withdrawn, standing, summary_at, tally, user_by_name,
     user_by_token,
@@ -178,7 +178,7 @@ fn make<S: Alter>(
         Call::Standing => are_there(standing(alloc, conn, profile, 1)),
         Call::Tally => is_approved(tally(alloc, conn, profile, 1)),
         Call::Baseline => is_there(baseline(alloc, conn, &profile.team)),
-        Call::Held => held(conn, profile),
+        Call::Held => is_held(conn, profile),
         Call::PutUser => is_done(put_user(conn, user)),
         Call::AddRevision => is_done(add(alloc, conn, sample, body)),
         Call::PutVote => is_done(vote(conn, sample)),

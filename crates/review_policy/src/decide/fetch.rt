@@ -1,7 +1,7 @@
 //! When what was issued of a profile may be fetched, or asked for.
 
 ghost use Rattle.std.specs.Prelude.{◌≡◌};
-ghost use Rattle.review_policy.specs.Rules.{first_denial, fetch_rules};
+ghost use Rattle.review_policy.specs.Rules.{fetch_rules, known_denial};
 
 use super::first_denial;
 use crate::denial::{Denial, Rule};
@@ -10,10 +10,9 @@ use crate::facts::FetchFacts;
 /// Whether what was issued of a profile may be fetched, or its revision seen, or the first rule that
 /// refuses it.
 pub fn decide_fetch(facts: &FetchFacts) -> Result<(), Denial>
-    ensures { result ≡ first_denial (fetch_rules facts.now) }
+    ensures { result ≡ known_denial (fetch_rules facts.now) }
 {
     first_denial(&[
-        (Rule::CallerUnknown, facts.caller_unknown),
         (Rule::RoleMissing, facts.role_missing),
         (Rule::OtherTeam, facts.other_team),
         (Rule::NothingIssued, facts.nothing_issued),

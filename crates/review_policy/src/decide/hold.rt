@@ -1,7 +1,7 @@
 //! When a profile may be held or released.
 
 ghost use Rattle.std.specs.Prelude.{◌≡◌};
-ghost use Rattle.review_policy.specs.Rules.{first_denial, hold_rule, hold_rules};
+ghost use Rattle.review_policy.specs.Rules.{hold_rule, hold_rules, known_denial};
 
 use super::first_denial;
 use crate::act::ProfileAct;
@@ -20,10 +20,9 @@ fn rule_of(act: ProfileAct, held: bool) -> (Rule, bool)
 
 /// Whether this may be done to a profile, or the first rule that refuses it.
 pub fn decide_hold(act: ProfileAct, facts: &HoldFacts) -> Result<(), Denial>
-    ensures { result ≡ first_denial (hold_rules act facts.now) }
+    ensures { result ≡ known_denial (hold_rules act facts.now) }
 {
     first_denial(&[
-        (Rule::CallerUnknown, facts.caller_unknown),
         (Rule::RoleMissing, facts.role_missing),
         (Rule::NoProfile, facts.no_profile),
         rule_of(act, facts.held),

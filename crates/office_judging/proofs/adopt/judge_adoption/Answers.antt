@@ -2,7 +2,7 @@ use Rattle.std.proofs.Common.{rules, ◌≡◌, ◌∙◌, None, refl, sym, ap, 
 use Rattle.sqlite.specs.Held.{state}
 use Rattle.review_policy.specs.declared.act.RevisionAct.TheVariants.{Adopt}
 use Rattle.review_policy.specs.declared.answer.Reply.TheVariants as reply
-use Rattle.review_policy.specs.Rules.{first_denial, adopt_rules}
+use Rattle.review_policy.specs.Rules.{adopt_rules, known_denial}
 use Rattle.review_policy.specs.declared.fault.Fault.TheVariants.{NoMemory}
 use Rattle.office_policy.specs.declared.change.Change.TheVariants as changes
 use Rattle.office_policy.specs.History.{adopted}
@@ -20,7 +20,7 @@ returns-in_err-decide_adopt-clause-judged g c =
     (refuses_at_once (adopting c.args.caller c.args.name.now c.args.number)
     (state g.S.Store c.args.conn.now) c.in_err-decide_adopt.field-0.0 c.requires
     (adopt_early c.args.caller c.in_err-decide_adopt.field-0.0
-    (ap (λ f. first_denial (adopt_rules f)) (sym c.facts_of_caller.ensures) ∙ sym c.in_err-decide_adopt.ensures)))
+    (ap (λ f. known_denial (adopt_rules f)) (sym c.facts_of_caller.ensures) ∙ sym c.in_err-decide_adopt.ensures)))
 
 pub returns-in_err-found-clause-judged : goal.returns-in_err-found-clause-judged
 returns-in_err-found-clause-judged g c =
@@ -33,7 +33,7 @@ returns-in_err-decide_adopt-2-clause-judged g c =
     (refuses (adopting c.args.caller c.args.name.now c.args.number)
     (state g.S.Store c.args.conn.now) (state g.S.Store c.authored.new.conn)
     (c.in_ok-found.found, c.in_ok-found.is_author) c.in_ok-found.ensures c.in_err-decide_adopt-2.field-0.0
-    (ap (λ f. first_denial (adopt_rules f)) (sym c.all_facts.ensures) ∙ sym c.in_err-decide_adopt-2.ensures))
+    (ap (λ f. known_denial (adopt_rules f)) (sym c.all_facts.ensures) ∙ sym c.in_err-decide_adopt-2.ensures))
 
 pub returns-in_err-clone-clause-judged : goal.returns-in_err-clone-clause-judged
 returns-in_err-clone-clause-judged g c =
@@ -46,7 +46,7 @@ returns-clause-judged g c =
     allows (adopting c.args.caller c.args.name.now c.args.number)
     (state g.S.Store c.args.conn.now) (state g.S.Store c.authored.new.conn)
     (c.in_ok-found.found, c.in_ok-found.is_author) c.in_ok-found.ensures
-    (ap (λ f. first_denial (adopt_rules f)) (sym c.all_facts.ensures) ∙ sym c.in_ok-decide_adopt-2.ensures)
+    (ap (λ f. known_denial (adopt_rules f)) (sym c.all_facts.ensures) ∙ sym c.in_ok-decide_adopt-2.ensures)
     (changes.ActOnRevision Adopt c.in_ok-clone.field-0 c.args.number) reply.Nothing
     (λ h. ap (λ p. accepted reply.Nothing (Some (adopted c.args.caller.name p c.args.number))) (sym same))
     (λ h. tt)

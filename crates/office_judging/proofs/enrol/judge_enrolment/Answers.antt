@@ -1,7 +1,7 @@
 use Rattle.std.proofs.Common.{◌∙◌, Some, None, refl, sym, ap}
 use Rattle.sqlite.specs.Held.{state}
 use Rattle.review_policy.specs.declared.answer.Reply.TheVariants.{Nothing}
-use Rattle.review_policy.specs.Rules.{first_denial, enrol_rules}
+use Rattle.review_policy.specs.Rules.{enrol_rules, known_denial}
 use Rattle.review_policy.specs.declared.fault.Fault.TheVariants.{NoMemory}
 use Rattle.office_tables.specs.declared.row.UserRow.{UserRow}
 use Rattle.office_policy.specs.declared.change.Change.TheVariants as changes
@@ -18,7 +18,7 @@ returns-in_err-decide_enrol-clause-judged g c =
     left _ _ _ _ (refusals.Denied c.in_err-decide_enrol.field-0.0 None) c.from_residual.ensures.1
     (refused_at_once _ (state g.S.Store c.args.conn.now) c.in_err-decide_enrol.field-0.0 None c.requires
     (λ h lawful. refused_early h c.args.caller c.args.user.now c.args.team.now c.args.roles c.args.digest.now
-    c.in_err-decide_enrol.field-0.0 (ap (λ f. first_denial (enrol_rules f)) (sym c.facts_of_caller.ensures) ∙ sym c.in_err-decide_enrol.ensures)))
+    c.in_err-decide_enrol.field-0.0 (ap (λ f. known_denial (enrol_rules f)) (sym c.facts_of_caller.ensures) ∙ sym c.in_err-decide_enrol.ensures)))
 
 pub returns-in_err-known-clause-judged : goal.returns-in_err-known-clause-judged
 returns-in_err-known-clause-judged g c =
@@ -32,7 +32,7 @@ returns-in_err-decide_enrol-2-clause-judged g c =
     (c.in_ok-known.known, c.in_ok-known.shower) c.in_ok-known.ensures c.in_err-decide_enrol-2.field-0.0 None
     (λ h lawful is. refused h c.args.caller c.args.user.now c.args.team.now c.args.roles c.args.digest.now
     (c.in_ok-known.known, c.in_ok-known.shower) (is h lawful refl) c.in_err-decide_enrol-2.field-0.0
-    (ap (λ f. first_denial (enrol_rules f)) (sym c.all_facts.ensures) ∙ sym c.in_err-decide_enrol-2.ensures)))
+    (ap (λ f. known_denial (enrol_rules f)) (sym c.all_facts.ensures) ∙ sym c.in_err-decide_enrol-2.ensures)))
 
 pub returns-in_err-row_of-clause-judged : goal.returns-in_err-row_of-clause-judged
 returns-in_err-row_of-clause-judged g c =
@@ -47,7 +47,7 @@ returns-clause-judged g c =
       caller = refl;
       verdict = accepts h c.args.caller c.args.user.now c.args.team.now c.args.roles c.args.digest.now
           (c.in_ok-known.known, c.in_ok-known.shower) (is h lawful refl)
-          (ap (λ f. first_denial (enrol_rules f)) (sym c.all_facts.ensures) ∙ sym c.in_ok-decide_enrol-2.ensures)
+          (ap (λ f. known_denial (enrol_rules f)) (sym c.all_facts.ensures) ∙ sym c.in_ok-decide_enrol-2.ensures)
           ∙ ap (λ (u : UserRow). accepted Nothing (Some (enrolled c.args.caller.name u.name u.team u.roles u.digest))) (sym c.in_ok-row_of.ensures);
       next = tt;
     })

@@ -1,6 +1,6 @@
 use Rattle.std.proofs.Common.{rules, ◌≡◌, None, Ok, Err, false, not, refl, Some, sym, ap, subst}
 use Rattle.sqlite.specs.Held.{state}
-use Rattle.review_policy.specs.Rules.{first_denial, hold_rules}
+use Rattle.review_policy.specs.Rules.{hold_rules, known_denial}
 use Rattle.review_policy.specs.declared.answer.Reply.TheVariants as reply
 use Rattle.review_policy.specs.declared.fault.Fault.TheVariants.{NoMemory}
 use Rattle.office_policy.specs.declared.change.Change.TheVariants as changes
@@ -20,7 +20,7 @@ returns-in_err-decide_hold-clause-judged g c =
     (refuses_at_once (holding c.args.caller c.args.act c.args.name.now)
     (state g.S.Store c.args.conn.now) c.in_err-decide_hold.field-0.0 c.requires
     (hold_early c.args.caller c.args.act c.in_err-decide_hold.field-0.0
-    (subst (λ b. first_denial (hold_rules c.args.act (hold_facts (Some c.args.caller) false (not b))) ≡ Err c.in_err-decide_hold.field-0.0) c.holds.ensures
+    (subst (λ b. known_denial (hold_rules c.args.act (hold_facts (Some c.args.caller) false (not b))) ≡ Err c.in_err-decide_hold.field-0.0) c.holds.ensures
     (hold_asked c.args.caller c.args.act c.has.result (false, not c.holds.result) (Err c.in_err-decide_hold.field-0.0) c.has.ensures c.in_err-decide_hold.ensures))))
 
 pub returns-in_err-no_profile-clause-judged : goal.returns-in_err-no_profile-clause-judged

@@ -2,7 +2,7 @@ use Rattle.std.proofs.Common.{rules, ◌≡◌, ◌∙◌, Some, None, sym, ap, 
 use Rattle.sqlite.specs.Held.{state}
 use Rattle.review_policy.specs.declared.act.RevisionAct.TheVariants.{Issue}
 use Rattle.review_policy.specs.declared.answer.Reply.TheVariants.{Issued}
-use Rattle.review_policy.specs.Rules.{first_denial, issue_rules}
+use Rattle.review_policy.specs.Rules.{issue_rules, known_denial}
 use Rattle.review_policy.specs.declared.fault.Fault.TheVariants.{NoMemory}
 use Rattle.office_policy.specs.declared.change.Change.TheVariants as changes
 use Rattle.office_policy.specs.History.{issued}
@@ -20,7 +20,7 @@ returns-in_err-decide_issue-clause-judged g c =
     left _ _ _ _ (refusals.Denied d None) c.from_residual.ensures.1
     (refused_at_once _ (state g.S.Store c.args.conn.now) d None c.requires
     (λ h lawful. caller_refused h c.args.caller c.args.name.now c.args.number d
-    (ap (λ f. first_denial (issue_rules f)) (sym c.facts_of_caller.ensures) ∙ sym c.in_err-decide_issue.ensures)))
+    (ap (λ f. known_denial (issue_rules f)) (sym c.facts_of_caller.ensures) ∙ sym c.in_err-decide_issue.ensures)))
 
 pub returns-in_err-looked-clause-judged : goal.returns-in_err-looked-clause-judged
 returns-in_err-looked-clause-judged g c =
@@ -34,7 +34,7 @@ returns-in_err-decide_issue-2-clause-judged g c =
     left _ _ _ _ (refusals.Denied d None) c.from_residual-in_err-decide_issue-2.ensures.1
     (refused_after _ (state g.S.Store c.args.conn.now) (state g.S.Store c.look_up.new.conn) _ looked c.in_ok-looked.ensures d None
     (λ h lawful looks. refused_early_on h c.args.caller c.args.name.now c.args.number looked (looks h lawful refl) d
-    (ap (λ f. first_denial (issue_rules f)) (sym c.facts_before_need.ensures) ∙ sym c.in_err-decide_issue-2.ensures)))
+    (ap (λ f. known_denial (issue_rules f)) (sym c.facts_before_need.ensures) ∙ sym c.in_err-decide_issue-2.ensures)))
 
 pub deciding_need-requires-clause-is_open : goal.deciding_need-requires-clause-is_open
 deciding_need-requires-clause-is_open g c clean = (c.in_ok-looked.ensures.leaves.answered clean).1
@@ -62,7 +62,7 @@ returns-in_err-decide_issue-3-clause-judged g c =
     (refused_after _ old new _ (looked, need) both d None
     (λ h lawful looks. refused_by_need h c.args.caller c.args.name.now c.args.number looked (looks.0 h lawful refl) c.in-Some.row c.in-Some.is
     need (looks.1 h lawful refl) d
-    (ap (λ f. first_denial (issue_rules f)) (sym c.all_facts.ensures) ∙ sym c.in_err-decide_issue-3.ensures)))
+    (ap (λ f. known_denial (issue_rules f)) (sym c.all_facts.ensures) ∙ sym c.in_err-decide_issue-3.ensures)))
 
 pub returns-in_err-clone-clause-judged : goal.returns-in_err-clone-clause-judged
 returns-in_err-clone-clause-judged g c =
@@ -90,7 +90,7 @@ returns-clause-judged g c =
       caller = refl;
       verdict = accepts h c.args.caller c.args.name.now c.args.number looked (looks.0 h lawful refl) c.in-Some.row c.in-Some.is
           need (looks.1 h lawful refl)
-          (ap (λ f. first_denial (issue_rules f)) (sym c.all_facts.ensures) ∙ sym c.in_ok-decide_issue-3.ensures)
+          (ap (λ f. known_denial (issue_rules f)) (sym c.all_facts.ensures) ∙ sym c.in_ok-decide_issue-3.ensures)
           ∙ ap (λ p. accepted (Issued c.in-Some.row.digest) (Some (issued c.args.caller.name p c.args.number))) (sym same);
       next = tt;
     })

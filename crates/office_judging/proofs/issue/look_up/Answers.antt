@@ -29,7 +29,7 @@ returns-in_err-held g c =
     let one = state g.S.Store c.revision.new.conn in
     let two = state g.S.Store c.is_author.new.conn in
     let three = state g.S.Store c.tally.new.conn in
-    let new = state g.S.Store c.held.new.conn in
+    let new = state g.S.Store c.is_held.new.conn in
     let both = read_pair old one two _ _ _ _ c.in_ok-revision.ensures.read c.in_ok-by_author.ensures.read in
     let all = read_pair old two three _ _ _ _ both c.in_ok-tally.ensures.read in
     let e : c.from_residual-in_err-held.result ≡ Err c.in_err-held.field-0.0 = search rules in
@@ -41,7 +41,7 @@ returns g c =
     let one = state g.S.Store c.revision.new.conn in
     let two = state g.S.Store c.is_author.new.conn in
     let three = state g.S.Store c.tally.new.conn in
-    let new = state g.S.Store c.held.new.conn in
+    let new = state g.S.Store c.is_held.new.conn in
     let both = read_pair old one two _ _ _ _ c.in_ok-revision.ensures.read c.in_ok-by_author.ensures.read in
     let all = read_pair old two three _ _ _ _ both c.in_ok-tally.ensures.read in
     read_both old three new _ _ _ all _ _ _

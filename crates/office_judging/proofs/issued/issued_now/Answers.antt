@@ -1,7 +1,7 @@
 use Rattle.std.proofs.Common.{◌≡◌, ◌∙◌, None, Some, sym, ap}
 use Rattle.sqlite.specs.Held.{state}
 use Rattle.review_policy.specs.declared.answer.Reply.TheVariants as reply
-use Rattle.review_policy.specs.Rules.{first_denial, fetch_rules}
+use Rattle.review_policy.specs.Rules.{fetch_rules, known_denial}
 use Rattle.office_policy.specs.Facts.{fetch_facts}
 use Rattle.office_judging.specs.declared.refusal.Refusal.TheVariants as refusals
 use Rattle.office_judging.proofs.Judging.{left, read_fails}
@@ -15,7 +15,7 @@ returns-in_err-decide_fetch g c =
     (refuses_at_once (telling_issued c.args.caller.now c.args.name.now)
     (state g.S.Store c.args.conn.now) c.in_err-decide_fetch.field-0.0 c.requires
     (brief_early c.args.caller.now c.args.name.now c.in_err-decide_fetch.field-0.0
-    (ap (λ f. first_denial (fetch_rules f)) (sym c.facts_of_caller.ensures) ∙ sym c.in_err-decide_fetch.ensures)))
+    (ap (λ f. known_denial (fetch_rules f)) (sym c.facts_of_caller.ensures) ∙ sym c.in_err-decide_fetch.ensures)))
 
 pub returns-in_err-found : goal.returns-in_err-found
 returns-in_err-found g c =
@@ -28,15 +28,15 @@ returns-in_err-decide_fetch-2 g c =
     (refuses (telling_issued c.args.caller.now c.args.name.now)
     (state g.S.Store c.args.conn.now) (state g.S.Store c.look_at.new.conn)
     (c.in_ok-found.found, c.in_ok-found.is_held) c.in_ok-found.ensures c.in_err-decide_fetch-2.field-0.0
-    (ap (λ none. first_denial (fetch_rules (record (fetch_facts (Some c.args.caller.now) c.args.name.now.team None c.in_ok-found.is_held) { nothing_issued = none }))) (sym (none_brief c.is_none.result c.in_ok-found.found c.is_none.ensures))
-    ∙ ap (λ f. first_denial (fetch_rules f)) (sym c.all_facts.ensures) ∙ sym c.in_err-decide_fetch-2.ensures))
+    (ap (λ none. known_denial (fetch_rules (record (fetch_facts (Some c.args.caller.now) c.args.name.now.team None c.in_ok-found.is_held) { nothing_issued = none }))) (sym (none_brief c.is_none.result c.in_ok-found.found c.is_none.ensures))
+    ∙ ap (λ f. known_denial (fetch_rules f)) (sym c.all_facts.ensures) ∙ sym c.in_err-decide_fetch-2.ensures))
 
 pub returns : goal.returns
 returns g c =
     accepts (telling_issued c.args.caller.now c.args.name.now)
     (state g.S.Store c.args.conn.now) (state g.S.Store c.look_at.new.conn)
     (c.in_ok-found.found, c.in_ok-found.is_held) c.in_ok-found.ensures
-    (ap (λ none. first_denial (fetch_rules (record (fetch_facts (Some c.args.caller.now) c.args.name.now.team None c.in_ok-found.is_held) { nothing_issued = none }))) (sym (none_brief c.is_none.result c.in_ok-found.found c.is_none.ensures))
-    ∙ ap (λ f. first_denial (fetch_rules f)) (sym c.all_facts.ensures) ∙ sym c.in_ok-decide_fetch-2.ensures)
+    (ap (λ none. known_denial (fetch_rules (record (fetch_facts (Some c.args.caller.now) c.args.name.now.team None c.in_ok-found.is_held) { nothing_issued = none }))) (sym (none_brief c.is_none.result c.in_ok-found.found c.is_none.ensures))
+    ∙ ap (λ f. known_denial (fetch_rules f)) (sym c.all_facts.ensures) ∙ sym c.in_ok-decide_fetch-2.ensures)
     (reply.IssuedNow c.in-Some.brief.digest c.in-Some.brief.number)
     (brief_done c.args.caller.now c.args.name.now (c.in_ok-found.found, c.in_ok-found.is_held) c.in-Some.brief c.in-Some.is)

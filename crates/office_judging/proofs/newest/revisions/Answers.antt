@@ -1,6 +1,6 @@
 use Rattle.std.proofs.Common.{◌∙◌, None, Some, not, refl, sym, ap}
 use Rattle.sqlite.specs.Held.{state}
-use Rattle.review_policy.specs.Rules.{first_denial, revisions_rules}
+use Rattle.review_policy.specs.Rules.{revisions_rules, known_denial}
 use Rattle.office_policy.specs.Facts.{revisions_facts}
 use Rattle.office_policy.specs.Newest.{revisions_before}
 use Rattle.office_policy.specs.Verdict.{accepted}
@@ -17,7 +17,7 @@ returns-in_err-decide_revisions g c =
     let d = c.in_err-decide_revisions.field-0.0 in
     left _ _ _ _ (refusals.Denied d None) c.from_residual.ensures.1
     (refuses_at_once (newest_listing c.args.caller.now c.args.name.now c.args.before) (state g.S.Store c.args.conn.now) d c.requires
-    (newest_early c.args.caller.now c.args.name.now d (ap (λ f. first_denial (revisions_rules f)) (sym c.facts.ensures) ∙ sym c.in_err-decide_revisions.ensures)))
+    (newest_early c.args.caller.now c.args.name.now d (ap (λ f. known_denial (revisions_rules f)) (sym c.facts.ensures) ∙ sym c.in_err-decide_revisions.ensures)))
 
 pub returns-in_err-is_there : goal.returns-in_err-is_there
 returns-in_err-is_there g c =
@@ -32,7 +32,7 @@ returns-in_err-decide_revisions-2 g c =
     left _ _ _ _ (refusals.Denied d None) c.from_residual-in_err-decide_revisions-2.ensures.1
     (refuses (newest_listing c.args.caller.now c.args.name.now c.args.before) old new (not c.in_ok-is_there.is_there)
     (no_revision old new c.args.name.now c.in_ok-is_there.is_there c.in_ok-is_there.ensures.read) d
-    (ap (λ f. first_denial (revisions_rules f)) (sym c.facts-2.ensures) ∙ sym c.in_err-decide_revisions-2.ensures))
+    (ap (λ f. known_denial (revisions_rules f)) (sym c.facts-2.ensures) ∙ sym c.in_err-decide_revisions-2.ensures))
 
 pub returns-in_err-found : goal.returns-in_err-found
 returns-in_err-found g c =
@@ -56,6 +56,6 @@ returns g c =
     found_after _ old new _ _ all c.page.result
     (λ h lawful looks.
     allowed_at (newest_listing c.args.caller.now p c.args.before) h
-    (ap (λ none. first_denial (revisions_rules (revisions_facts (Some c.args.caller.now) p.team none))) (sym (looks.0 h lawful refl))
-    ∙ ap (λ f. first_denial (revisions_rules f)) (sym c.facts-2.ensures) ∙ sym c.in_ok-decide_revisions-2.ensures)
+    (ap (λ none. known_denial (revisions_rules (revisions_facts (Some c.args.caller.now) p.team none))) (sym (looks.0 h lawful refl))
+    ∙ ap (λ f. known_denial (revisions_rules f)) (sym c.facts-2.ensures) ∙ sym c.in_ok-decide_revisions-2.ensures)
     ∙ ap (λ r. accepted r None) (sym (c.page.ensures ∙ page_told (revisions_before h p c.args.before) told (looks.1 h lawful refl))))

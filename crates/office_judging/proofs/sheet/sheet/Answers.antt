@@ -2,7 +2,7 @@ use Rattle.std.proofs.Common.{◌∙◌, Some, None, sym, ap, refl}
 use Rattle.std.specs.Prelude.{is_none}
 use Rattle.sqlite.specs.Held.{state}
 use Rattle.review_policy.specs.declared.answer.Reply.TheVariants.{Sheet}
-use Rattle.review_policy.specs.Rules.{first_denial, read_rules}
+use Rattle.review_policy.specs.Rules.{read_rules, known_denial}
 use Rattle.office_policy.specs.Facts.{read_facts}
 use Rattle.office_judging.specs.declared.refusal.Refusal.TheVariants as refusals
 use Rattle.office_judging.proofs.Judging.{left, read_fails, second_fails, found_after}
@@ -18,7 +18,7 @@ returns-in_err-decide_read g c =
     let d = c.in_err-decide_read.field-0.0 in
     left _ _ _ _ (refusals.Denied d None) c.from_residual.ensures.1
     (refuses_at_once (showing_sheet c.args.caller.now c.args.name.now c.args.number) (state g.S.Store c.args.conn.now) d c.requires
-    (read_early c.args.caller.now c.args.name.now d (ap (λ f. first_denial (read_rules f)) (sym c.read_facts.ensures) ∙ sym c.in_err-decide_read.ensures)))
+    (read_early c.args.caller.now c.args.name.now d (ap (λ f. known_denial (read_rules f)) (sym c.read_facts.ensures) ∙ sym c.in_err-decide_read.ensures)))
 
 pub returns-in_err-found : goal.returns-in_err-found
 returns-in_err-found g c =
@@ -34,7 +34,7 @@ returns-in_err-decide_read-2 g c =
     left _ _ _ _ (refusals.Denied d None) c.from_residual-in_err-decide_read-2.ensures.1
     (refuses (showing_sheet c.args.caller.now c.args.name.now c.args.number) old new found
     (one_revision old new c.args.name.now c.args.number found c.in_ok-found.ensures.read) d
-    (ap (λ f. first_denial (read_rules f))
+    (ap (λ f. known_denial (read_rules f))
     (sym (c.read_facts-2.ensures ∙ ap (read_facts (Some c.args.caller.now) c.args.name.now.team) (none_told c.is_none.result found c.is_none.ensures)))
     ∙ sym c.in_err-decide_read-2.ensures))
 
@@ -58,7 +58,7 @@ returns g c =
     found_after _ old new _ _ all (Sheet c.in_ok-sheet.sheet)
     (λ h lawful looks.
     allowed_at (showing_sheet c.args.caller.now c.args.name.now c.args.number) h
-    (ap (λ f. first_denial (read_rules f))
+    (ap (λ f. known_denial (read_rules f))
     (sym (c.read_facts-2.ensures ∙ ap (read_facts (Some c.args.caller.now) c.args.name.now.team)
     (none_told c.is_none.result found c.is_none.ensures ∙ ap is_none looks.0)))
     ∙ sym c.in_ok-decide_read-2.ensures)

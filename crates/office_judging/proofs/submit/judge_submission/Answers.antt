@@ -1,6 +1,6 @@
 use Rattle.std.proofs.Common.{rules, ◌≡◌, ◌∙◌, Some, None, Err, sym, ap, subst, refl}
 use Rattle.sqlite.specs.Held.{state}
-use Rattle.review_policy.specs.Rules.{first_denial, submit_rules}
+use Rattle.review_policy.specs.Rules.{submit_rules, known_denial}
 use Rattle.review_policy.specs.declared.fault.Fault.TheVariants.{NoMemory}
 use Rattle.review_policy.specs.declared.ask.Ask.TheVariants as ask
 use Rattle.office_policy.specs.Verdict.{verdict_of}
@@ -27,7 +27,7 @@ returns-in_err-decide_submit-clause-judged g c =
     left _ _ _ _ (refusals.Denied d None) c.from_residual-in_err-decide_submit.ensures.1
     (refused_after _ (state g.S.Store c.args.conn.now) (state g.S.Store c.last.new.conn) _ c.in_ok-last.last c.in_ok-last.ensures.read d None
     (λ h lawful is. refused h c.args.caller c.args.name.now c.args.document.now c.in_ok-text.text c.in_ok-text.ensures.text c.in_ok-last.last is d
-    (ap (λ f. first_denial (submit_rules f)) (sym c.all_facts.ensures) ∙ sym c.in_err-decide_submit.ensures)))
+    (ap (λ f. known_denial (submit_rules f)) (sym c.all_facts.ensures) ∙ sym c.in_err-decide_submit.ensures)))
 
 pub returns-in_err-row-clause-judged : goal.returns-in_err-row-clause-judged
 returns-in_err-row-clause-judged g c =
@@ -47,7 +47,7 @@ returns-clause-judged g c =
     subst (IsAllowedBy by (λ user. Some c.args.caller ≡ Some user) h) (sym c.in_ok-addition.ensures)
     (accepts h c.args.caller c.args.name.now c.args.document.now c.in_ok-text.text c.in_ok-text.ensures.text c.in_ok-last.last is
     c.in_ok-row.row c.in_ok-row.ensures
-    (ap (λ f. first_denial (submit_rules f)) (sym c.all_facts.ensures) ∙ sym c.in_ok-decide_submit.ensures)))
+    (ap (λ f. known_denial (submit_rules f)) (sym c.all_facts.ensures) ∙ sym c.in_ok-decide_submit.ensures)))
 
 pub returns-clause-asked : goal.returns-clause-asked
 returns-clause-asked g c =

@@ -1,7 +1,7 @@
 use Rattle.std.proofs.Common.{rules, ◌≡◌, ◌∙◌, None, refl, sym, ap, Some}
 use Rattle.sqlite.specs.Held.{state}
 use Rattle.review_policy.specs.declared.answer.Reply.TheVariants as reply
-use Rattle.review_policy.specs.Rules.{first_denial, vote_rules}
+use Rattle.review_policy.specs.Rules.{vote_rules, known_denial}
 use Rattle.review_policy.specs.declared.fault.Fault.TheVariants.{NoMemory}
 use Rattle.office_policy.specs.declared.change.Change.TheVariants as changes
 use Rattle.office_policy.specs.History.{voted}
@@ -19,7 +19,7 @@ returns-in_err-decide_vote-clause-judged g c =
     (refuses_at_once (voting c.args.caller c.args.name.now c.args.number c.args.digest.now c.args.approves)
     (state g.S.Store c.args.conn.now) c.in_err-decide_vote.field-0.0 c.requires
     (vote_early c.args.caller c.args.digest.now c.in_err-decide_vote.field-0.0
-    (ap (λ f. first_denial (vote_rules f)) (sym c.facts_of_caller.ensures) ∙ sym c.in_err-decide_vote.ensures)))
+    (ap (λ f. known_denial (vote_rules f)) (sym c.facts_of_caller.ensures) ∙ sym c.in_err-decide_vote.ensures)))
 
 pub returns-in_err-found-clause-judged : goal.returns-in_err-found-clause-judged
 returns-in_err-found-clause-judged g c =
@@ -32,7 +32,7 @@ returns-in_err-decide_vote-2-clause-judged g c =
     (refuses (voting c.args.caller c.args.name.now c.args.number c.args.digest.now c.args.approves)
     (state g.S.Store c.args.conn.now) (state g.S.Store c.authored.new.conn)
     (c.in_ok-found.found, c.in_ok-found.is_author) c.in_ok-found.ensures c.in_err-decide_vote-2.field-0.0
-    (ap (λ f. first_denial (vote_rules f)) (sym c.all_facts.ensures) ∙ sym c.in_err-decide_vote-2.ensures))
+    (ap (λ f. known_denial (vote_rules f)) (sym c.all_facts.ensures) ∙ sym c.in_err-decide_vote-2.ensures))
 
 pub returns-in_err-clone-clause-judged : goal.returns-in_err-clone-clause-judged
 returns-in_err-clone-clause-judged g c =
@@ -45,7 +45,7 @@ returns-clause-judged g c =
     allows (voting c.args.caller c.args.name.now c.args.number c.args.digest.now c.args.approves)
     (state g.S.Store c.args.conn.now) (state g.S.Store c.authored.new.conn)
     (c.in_ok-found.found, c.in_ok-found.is_author) c.in_ok-found.ensures
-    (ap (λ f. first_denial (vote_rules f)) (sym c.all_facts.ensures) ∙ sym c.in_ok-decide_vote-2.ensures)
+    (ap (λ f. known_denial (vote_rules f)) (sym c.all_facts.ensures) ∙ sym c.in_ok-decide_vote-2.ensures)
     (changes.Vote c.in_ok-clone.field-0 c.args.number c.args.digest.now c.args.approves) reply.Nothing
     (λ h. ap (λ p. accepted reply.Nothing (Some (voted c.args.caller.name p c.args.number c.args.digest.now c.args.approves))) (sym same))
     (λ h. tt)

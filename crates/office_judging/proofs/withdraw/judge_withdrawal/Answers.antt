@@ -2,7 +2,7 @@ use Rattle.std.proofs.Common.{rules, ◌≡◌, ◌∙◌, None, refl, sym, ap, 
 use Rattle.sqlite.specs.Held.{state}
 use Rattle.review_policy.specs.declared.act.RevisionAct.TheVariants.{Withdraw}
 use Rattle.review_policy.specs.declared.answer.Reply.TheVariants as reply
-use Rattle.review_policy.specs.Rules.{first_denial, withdraw_rules}
+use Rattle.review_policy.specs.Rules.{withdraw_rules, known_denial}
 use Rattle.review_policy.specs.declared.fault.Fault.TheVariants.{NoMemory}
 use Rattle.office_policy.specs.declared.change.Change.TheVariants as changes
 use Rattle.office_policy.specs.History.{withdrawn}
@@ -21,7 +21,7 @@ returns-in_err-decide_withdraw-clause-judged g c =
     (refuses_at_once (withdrawing c.args.caller c.args.name.now c.args.number)
     (state g.S.Store c.args.conn.now) c.in_err-decide_withdraw.field-0.0 c.requires
     (withdraw_early c.args.caller c.args.name.now c.in_err-decide_withdraw.field-0.0
-    (ap (λ f. first_denial (withdraw_rules f)) (sym c.facts_of_caller.ensures) ∙ sym c.in_err-decide_withdraw.ensures)))
+    (ap (λ f. known_denial (withdraw_rules f)) (sym c.facts_of_caller.ensures) ∙ sym c.in_err-decide_withdraw.ensures)))
 
 pub returns-in_err-found-clause-judged : goal.returns-in_err-found-clause-judged
 returns-in_err-found-clause-judged g c =
@@ -36,7 +36,7 @@ returns-in_err-decide_withdraw-2-clause-judged g c =
     left _ _ _ _ (refusals.Denied c.in_err-decide_withdraw-2.field-0.0 None) c.from_residual-in_err-decide_withdraw-2.ensures.1
     (refuses (withdrawing c.args.caller c.args.name.now c.args.number) old mid found
     (one_summary old mid c.args.name.now c.args.number found c.in_ok-found.ensures.read) c.in_err-decide_withdraw-2.field-0.0
-    (ap (λ f. first_denial (withdraw_rules f)) (sym c.all_facts.ensures) ∙ sym c.in_err-decide_withdraw-2.ensures))
+    (ap (λ f. known_denial (withdraw_rules f)) (sym c.all_facts.ensures) ∙ sym c.in_err-decide_withdraw-2.ensures))
 
 pub returns-in_err-clone-clause-judged : goal.returns-in_err-clone-clause-judged
 returns-in_err-clone-clause-judged g c =
@@ -51,7 +51,7 @@ returns-clause-judged g c =
     let found = c.in_ok-found.found in
     allows (withdrawing c.args.caller c.args.name.now c.args.number) old mid found
     (one_summary old mid c.args.name.now c.args.number found c.in_ok-found.ensures.read)
-    (ap (λ f. first_denial (withdraw_rules f)) (sym c.all_facts.ensures) ∙ sym c.in_ok-decide_withdraw-2.ensures)
+    (ap (λ f. known_denial (withdraw_rules f)) (sym c.all_facts.ensures) ∙ sym c.in_ok-decide_withdraw-2.ensures)
     (changes.ActOnRevision Withdraw c.in_ok-clone.field-0 c.args.number) reply.Nothing
     (λ h. ap (λ p. accepted reply.Nothing (Some (withdrawn c.args.caller.name p c.args.number))) (sym same))
     (λ h. tt)

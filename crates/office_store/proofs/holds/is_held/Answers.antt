@@ -3,7 +3,7 @@ use Rattle.office_store.specs.declared.holds.TheConstants.{HOLD_OF}
 use Rattle.office_store.proofs.Texts as texts
 use Rattle.office_store.proofs.OtherReads.{reads_hold}
 use Rattle.office_store.proofs.Told.{any_read}
-use Rattle.office_store.proofs.holds.held.Goals as goal
+use Rattle.office_store.proofs.holds.is_held.Goals as goal
 
 pub returns-clause-read : goal.returns-clause-read
 returns-clause-read g c =
