@@ -5,6 +5,7 @@ use Rattle.clap.specs.Words.{App, Kinds, Row, Shape, Text, fault_of, new_app, su
 use Rattle.command_line.specs.Parts.{flag_rule, needed_number_rule, needed_rule, number_rule}
 use Rattle.command_line.specs.Parts.{option_rule, several_rule, with_commands, with_rules}
 use Rattle.command_line.specs.Parts.{with_version}
+use Rattle.command_line.specs.declared.evidence.TheConstants.{LAST_REVISION}
 
 -- `check FILE`
 abbrev pub check_app : App
@@ -67,7 +68,7 @@ history_app = with_rules (new_app (codes "history")) (needed_rule (codes "journa
 abbrev pub evidence_app : App
 evidence_app = with_rules (new_app (codes "evidence")) (needed_rule (codes "journal")
     ∷ needed_rule (codes "team") ∷ needed_rule (codes "profile")
-    ∷ needed_number_rule (codes "revision") 1 9999
+    ∷ needed_number_rule (codes "revision") 1 LAST_REVISION
     ∷ number_rule (codes "line") 1 18446744073709551615 ∷ [])
 
 -- the commands, in the order of the help

@@ -18,6 +18,7 @@ use Rattle.command_line.specs.declared.command.InitWords.{InitWords}
 use Rattle.command_line.specs.declared.command.JournalWords.{JournalWords}
 use Rattle.command_line.specs.declared.command.JournalWords.TheVariants.{Unnamed, Named, Without}
 use Rattle.command_line.specs.declared.command.KeptSeal.{KeptSeal}
+use Rattle.command_line.specs.declared.evidence.TheConstants.{LAST_REVISION}
 use Rattle.command_line.specs.declared.command.Requests.{Requests}
 use Rattle.command_line.specs.declared.command.Requests.TheVariants.{Count, UntilStopped}
 use Rattle.command_line.specs.declared.command.ServeWords.{ServeWords}
@@ -170,7 +171,7 @@ pub record HasEvidenceValues (rows : List Row) (words : EvidenceWords) : Type 0 
   pub journal : Gives rows (codes "journal") words.journal.now
   pub team : Gives rows (codes "team") words.team.now
   pub profile : Gives rows (codes "profile") words.profile.now
-  pub revision : IsNumberIn 1 9999 words.revision (one_of (codes "revision") rows)
+  pub revision : IsNumberIn 1 LAST_REVISION words.revision (one_of (codes "revision") rows)
   pub line : IsLineGiven rows words.line
 
 -- the subcommand of this name, with these rows of values, asks for the command

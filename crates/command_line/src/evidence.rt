@@ -80,8 +80,9 @@ pub(crate) fn add_evidence<'a>(
 // them.
 fn revision_of(given: &ArgMatches<'_>) -> Option<u32>
     ensures number { IfSome result (λ n.
-        IsNumberIn 1 9999 n (value_of (codes "revision") given.now)) }
-    ensures lacking { IfNone result (NoNumberIn 1 9999 (value_of (codes "revision") given.now)) }
+        IsNumberIn 1 LAST_REVISION n (value_of (codes "revision") given.now)) }
+    ensures lacking { IfNone result (NoNumberIn 1 LAST_REVISION
+        (value_of (codes "revision") given.now)) }
 {
     let revision = given.get_one::<u32>("revision")?;
     if 1 <= revision && revision <= LAST_REVISION {

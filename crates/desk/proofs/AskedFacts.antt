@@ -10,7 +10,7 @@ use Rattle.json_requests.specs.declared.bad.BadLine.TheVariants.{TooLong}
 use Rattle.json_requests.specs.declared.fault.LineFault.{LineFault}
 use Rattle.json_requests.specs.Faults.{Tells}
 use Rattle.json_requests.specs.Plain.{PlainRequest}
-use Rattle.json_requests.specs.Requests.{request_in, asked, Asks}
+use Rattle.json_requests.specs.Requests.{request_in, asked, max_line, Asks}
 use Rattle.desk.specs.declared.outcome.LineOutcome.{LineOutcome}
 use Rattle.desk.specs.declared.outcome.LineOutcome.TheVariants.{Bad, NoMemory, Answered}
 use Rattle.desk.specs.Stands.{IsHandled}
@@ -18,13 +18,13 @@ use Rattle.office_policy.proofs.LeftFacts.{left_by_one}
 use Rattle.office_policy.proofs.SurvivalFacts.{survives_none}
 use Rattle.no_memory.specs.Witness.{witness}
 
-pub asked_long : (line : List ℕ) → 300000 < length line → asked line ≡ Err TooLong
+pub asked_long : (line : List ℕ) → max_line < length line → asked line ≡ Err TooLong
 unfolding asked
-asked_long line long = rw (lt-ltb 300000 (length line) long) refl
+asked_long line long = rw (lt-ltb max_line (length line) long) refl
 
-pub asked_short : (line : List ℕ) → length line ≤ 300000 → asked line ≡ request_in line
+pub asked_short : (line : List ℕ) → length line ≤ max_line → asked line ≡ request_in line
 unfolding asked
-asked_short line short = rw (le-ltb 300000 (length line) short) refl
+asked_short line short = rw (le-ltb max_line (length line) short) refl
 
 module _ {X : Type 0} (m : Meaning X) where
   -- ---- what comes of a line

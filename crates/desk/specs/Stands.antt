@@ -67,8 +67,8 @@ module _ {X : Type 0} (m : Meaning X) where
         → UnlessLastFaulty (answers_of outcomes) (Stands m (history_after_lines h outcomes) new)
     pub crash : (h : History) → m.is_of h old → m.is_clean new
         → LeavesWithin m new (LeftAfterLines m (m.may_leave old) h outcomes)
-    -- where a crash could leave only the office before, it leaves that of the history after these, or
-    -- that with one event more, or a begun one: of a request among them which was answered by a fault
+    -- where a crash could leave only the office before, the office that it leaves is of the history
+    -- after these. Or one event more is in it, or begun: of a request that was answered by a fault
     pub left : (h : History) → m.is_of h old → LeavesOnly m h old → m.is_clean new
         → LeavesWithin m new
         (AreLeft m (history_after_lines h outcomes) (requests_of outcomes) (answers_of outcomes))

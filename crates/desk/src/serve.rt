@@ -123,10 +123,11 @@ pub fn desk<H: Handler, R: Read, W: Write>(
     ensures write { IfErr result.answered (λ e. (line : ℕ) → e ≡ DeskFault.Write line →
         writer.old.faults < writer.new.faults) }
     ensures too_many { IfErr result.answered (λ e. (line : ℕ) → e ≡ DeskFault.TooManyReads line →
-        (reader.new.calls ≡ reader.old.calls + 4194304) × (reader.new.faults ≡ reader.old.faults)) }
+        (reader.new.calls ≡ reader.old.calls + MAX_READS)
+        × (reader.new.faults ≡ reader.old.faults)) }
     ensures no_fault { OnOk result.answered
         ((reader.new.faults ≡ reader.old.faults) × (writer.new.faults ≡ writer.old.faults)) }
-    ensures calls { reader.new.calls ≤ reader.old.calls + 4194304 }
+    ensures calls { reader.new.calls ≤ reader.old.calls + MAX_READS }
 {
     let mut lines = match Lines::new(alloc) {
         Ok(lines) => lines,

@@ -6,6 +6,7 @@ use Rattle.std.specs.declared.time.Duration.{Duration}
 use Rattle.desk_http.specs.Clocks.{IsLeft, IsTimed}
 use Rattle.desk_http.specs.declared.deadline.Deadline.{Deadline}
 use Rattle.desk_http.specs.Endings.{AreReads, GaveNone, HasTaken, IsRead, IsTaken}
+use Rattle.desk_http.specs.declared.ending.TheConstants.{MOST_READS}
 
 module _ {T : Type 0} (Waits : T → Duration → Result (Unit {0}) Error → Type 0) (Gives : (old new : T) → Result ℕ Error → List ℕ → Type 0) where
   -- a call by a deadline that is the first one
@@ -18,13 +19,13 @@ module _ {T : Type 0} (Waits : T → Duration → Result (Unit {0}) Error → Ty
   -- what was taken by a deadline that ends a second after a moment of a clock
   pub has_taken : {C : Type 0} (Shows : C → Result Duration Error → Type 0) (Ends : T → Result (Unit {0}) Error → Type 0) (clock here : C) (old stream last new : T)
       (now end until length : Duration) → Ends old (Ok tt) → Shows clock (Ok now) → as_nanos end ≡ as_nanos now + as_nanos length → as_nanos length ≡ 1000000000
-      → stream ≡ old → here ≡ clock → until ≡ end → new ≡ last → IsTaken Waits Gives (IsLeft (Shows here) until) 10000 stream last
+      → stream ≡ old → here ≡ clock → until ≡ end → new ≡ last → IsTaken Waits Gives (IsLeft (Shows here) until) MOST_READS stream last
       → HasTaken Waits Gives (Shows clock) Ends old new
   has_taken {C} Shows Ends clock here old stream last new now end until length ended shows is second same by at left taken =
-      let by_clock = subst (λ (x : C). IsTaken Waits Gives (IsLeft (Shows x) until) 10000 stream last) by taken in
-      let at_end = subst (λ (d : Duration). IsTaken Waits Gives (IsLeft (Shows clock) d) 10000 stream last) at by_clock in
-      let of_old = subst (λ (s : T). IsTaken Waits Gives (IsLeft (Shows clock) end) 10000 s last) same at_end in
-      let to_new = subst (λ (s : T). IsTaken Waits Gives (IsLeft (Shows clock) end) 10000 old s) (sym left) of_old in
+      let by_clock = subst (λ (x : C). IsTaken Waits Gives (IsLeft (Shows x) until) MOST_READS stream last) by taken in
+      let at_end = subst (λ (d : Duration). IsTaken Waits Gives (IsLeft (Shows clock) d) MOST_READS stream last) at by_clock in
+      let of_old = subst (λ (s : T). IsTaken Waits Gives (IsLeft (Shows clock) end) MOST_READS s last) same at_end in
+      let to_new = subst (λ (s : T). IsTaken Waits Gives (IsLeft (Shows clock) end) MOST_READS old s) (sym left) of_old in
       inl (ended, (now, end, shows, is ∙ ap (λ n. as_nanos now + n) second, to_new))
 
 module _ {T : Type 0} (Waits : T → Duration → Result (Unit {0}) Error → Type 0) (Gives : (old new : T) → Result ℕ Error → List ℕ → Type 0)

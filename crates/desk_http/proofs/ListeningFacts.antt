@@ -8,6 +8,7 @@ use Rattle.desk_http.specs.Lines.{line_of, lines_of, IsCut, IsWhole}
 use Rattle.desk_http.specs.Listening.{Listening, AreServedOver, AreServedWith, HaveServed, IsNext, IsOver}
 use Rattle.desk_http.specs.Served.{IsServed, ReadCounts, TellCounts}
 use Rattle.desk_http.specs.declared.listener.Stream.{Stream}
+use Rattle.desk_http.specs.declared.serve.TheConstants.{MAX_READS}
 use Rattle.desk_http.specs.declared.served.Served.{Served}
 use Rattle.streams.specs.declared.whole.WriteFailed.{WriteFailed}
 use Rattle.streams.specs.declared.counted.Counted.{Counted}
@@ -21,7 +22,7 @@ module _ {N Reader Writer X : Type 0} (l : Listening N Reader Writer)
       (first reader : Counted Reader) (blank writer : Counted Writer) where
     pub is_over : first.inner ≡ stream.reader → first.calls ≡ 0 → first.faults ≡ 0 → blank.inner ≡ stream.writer → blank.faults ≡ 0
         → IsServed (new ≡ old) (IsHandled m old new) (remaining first.inner) (remaining reader.inner) (contents blank.inner) (contents writer.inner) result
-        → ReadCounts first.calls reader.calls (first.calls + 600000) first.faults reader.faults result
+        → ReadCounts first.calls reader.calls (first.calls + MAX_READS) first.faults reader.faults result
         → TellCounts blank.faults writer.faults result → l.takes_back before after reader writer result
         → IsOver l remaining contents m before after old new result stream
     is_over from calls faults to none served read wrote taken = record {
@@ -29,8 +30,8 @@ module _ {N Reader Writer X : Type 0} (l : Listening N Reader Writer)
       writer = writer;
       served = subst (λ (w : Writer). IsServed (new ≡ old) (IsHandled m old new) (remaining stream.reader) (remaining reader.inner) (contents w) (contents writer.inner) result) to
           (subst (λ (x : Reader). IsServed (new ≡ old) (IsHandled m old new) (remaining x) (remaining reader.inner) (contents blank.inner) (contents writer.inner) result) from served);
-      read = subst (λ (n : ℕ). ReadCounts 0 reader.calls 600000 n reader.faults result) faults
-          (subst (λ (n : ℕ). ReadCounts n reader.calls (n + 600000) first.faults reader.faults result) calls read);
+      read = subst (λ (n : ℕ). ReadCounts 0 reader.calls MAX_READS n reader.faults result) faults
+          (subst (λ (n : ℕ). ReadCounts n reader.calls (n + MAX_READS) first.faults reader.faults result) calls read);
       wrote = subst (λ (n : ℕ). TellCounts n writer.faults result) none wrote;
       taken = taken;
     }

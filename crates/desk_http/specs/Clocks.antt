@@ -12,7 +12,7 @@ module _ (Shows : Result Duration Error → Type 0) where
   EndsAfter length end =
       (now : Duration) × Shows (Ok now) × (as_nanos end ≡ as_nanos now + as_nanos length)
 
-  -- there is no such moment: the clock failed, or can't count so far
+  -- no moment is so long after now: the clock failed, or can't count so far
   abbrev pub HasNoEnd : Error → Type 0
   HasNoEnd e = Shows (Err e)
       ⊎ ((now : Duration) × Shows (Ok now) × (error_kind e ≡ InvalidInput))

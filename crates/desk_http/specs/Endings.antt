@@ -1,10 +1,11 @@
 -- What is taken of a client that may still be sending, once its response has ended.
-use Rattle.std.specs.Prelude.{◌≡◌, ◌⊎◌, ◌+◌, ◌<◌, ◌≤◌, ℕ, zero, suc, List, Bool, true, false}
+use Rattle.std.specs.Prelude.{◌≡◌, ◌⊎◌, ◌+◌, ◌<◌, ℕ, zero, suc, List, Bool, true, false}
 use Rattle.std.specs.Prelude.{Result, Ok, Err}
 use Rattle.std.specs.Duration.{as_nanos}
 use Rattle.std.specs.declared.io.Error.{Error}
 use Rattle.std.specs.declared.time.Duration.{Duration}
 use Rattle.desk_http.specs.Clocks.{HasNoEnd, IsLeft, IsTimed}
+use Rattle.desk_http.specs.declared.ending.TheConstants.{MOST_READS}
 use Rattle.desk_http.specs.declared.fault.HttpFault.{HttpFault}
 use Rattle.desk_http.specs.declared.served.Served.{Served}
 
@@ -46,7 +47,7 @@ module _ {T : Type 0} (Waits : T → Duration → Result (Unit {0}) Error → Ty
     HasTaken old new =
         (Ends old (Ok tt)
         × ((now end : Duration) × Shows (Ok now) × (as_nanos end ≡ as_nanos now + 1000000000)
-        × IsTaken (IsLeft Shows end) 10000 old new))
+        × IsTaken (IsLeft Shows end) MOST_READS old new))
         ⊎ ((new ≡ old) × ((e : Error) × (HasNoEnd Shows e ⊎ Ends old (Err e))))
 
     abbrev pub TakesIf : (is_unread : Bool) → (old new : T) → Type 0

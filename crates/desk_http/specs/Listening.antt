@@ -11,6 +11,7 @@ use Rattle.desk_http.specs.Served.{IsServed, ReadCounts, TellCounts}
 use Rattle.desk_http.specs.declared.fault.HttpFault.{HttpFault}
 use Rattle.desk_http.specs.declared.fault.HttpFault.TheVariants as fault
 use Rattle.desk_http.specs.declared.listener.Stream.{Stream}
+use Rattle.desk_http.specs.declared.serve.TheConstants.{MAX_READS}
 use Rattle.desk_http.specs.declared.served.Served.{Served}
 
 -- what is meant by a listener
@@ -37,7 +38,7 @@ module _ {N Reader Writer X : Type 0} (l : Listening N Reader Writer)
       pub served : IsServed (new ≡ old) (IsHandled m old new)
           (remaining stream.reader) (remaining reader.inner)
           (contents stream.writer) (contents writer.inner) result
-      pub read : ReadCounts 0 reader.calls 600000 0 reader.faults result
+      pub read : ReadCounts 0 reader.calls MAX_READS 0 reader.faults result
       pub wrote : TellCounts 0 writer.faults result
       pub taken : l.takes_back before after reader writer result
 

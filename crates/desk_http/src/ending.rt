@@ -42,7 +42,7 @@ impl EndWriting for TcpStream {
 fn take_all<C: PassClock, T: PassRead + Timeouts>(rest: &mut Timed<'_, C, T>)
     ensures { IsTaken T.read_waits T.gives
         (IsLeft (C.shows rest.old.deadline.clock.now) rest.old.deadline.end)
-        10000 rest.old.stream rest.new.stream }
+        MOST_READS rest.old.stream rest.new.stream }
 {
     let mut chunk = [0u8; 8192];
     for _ in 0..MOST_READS {

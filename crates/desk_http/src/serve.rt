@@ -1,6 +1,6 @@
 //! One exchange.
 
-ghost use Rattle.std.specs.Prelude.{◌≡◌, ◌+◌, ◌≤◌, ◌^◌};
+ghost use Rattle.std.specs.Prelude.{◌≡◌, ◌+◌, ◌≤◌};
 ghost use Rattle.office_policy.specs.History.{History};
 ghost use Rattle.office_policy.specs.Handled.{IsHandled, LeavesOnly};
 ghost use Rattle.desk_http.specs.Served.{IsServed, IsServedOf, IsTold, IsWritten, LeftByOne};
@@ -85,14 +85,14 @@ fn exchange<H: Handler, R: Read, W: Write>(
     reader: &mut Counted<R>,
     writer: &mut Counted<W>,
 ) -> Result<Served, HttpFault>
-    requires reads { reader.old.calls ≤ 2 ^ 62 }
+    requires reads { HasCallsLeft reader.old }
     ensures served { IsServed (office.new ≡ office.old)
         (IsHandled H.meaning office.old office.new)
         (R.remaining reader.old.inner) (R.remaining reader.new.inner)
         (W.contents writer.old.inner) (W.contents writer.new.inner) result }
-    ensures read { ReadCounts reader.old.calls reader.new.calls (reader.old.calls + 600000)
+    ensures read { ReadCounts reader.old.calls reader.new.calls (reader.old.calls + MAX_READS)
         reader.old.faults reader.new.faults result }
-    ensures calls { reader.new.calls ≤ reader.old.calls + 600000 }
+    ensures calls { reader.new.calls ≤ reader.old.calls + MAX_READS }
     ensures write { TellCounts writer.old.faults writer.new.faults result }
 {
     let most_calls = reader.calls() + MAX_READS;
@@ -137,9 +137,9 @@ pub fn serve_one<H: Handler, R: Read, W: Write>(
         (LeftByOne H.meaning h office.old office.new)
         (R.remaining reader.old.inner) (R.remaining reader.new.inner)
         (W.contents writer.old.inner) (W.contents writer.new.inner) result }
-    ensures read { ReadCounts reader.old.calls reader.new.calls (reader.old.calls + 600000)
+    ensures read { ReadCounts reader.old.calls reader.new.calls (reader.old.calls + MAX_READS)
         reader.old.faults reader.new.faults result }
-    ensures calls { reader.new.calls ≤ reader.old.calls + 600000 }
+    ensures calls { reader.new.calls ≤ reader.old.calls + MAX_READS }
     ensures write { TellCounts writer.old.faults writer.new.faults result }
 {
     exchange(office, alloc, router, scratch, reader, writer)

@@ -90,7 +90,7 @@ first_line = text_of (happened (founds 5)) ∷ []
 abbrev pub first_lines : List (List ℕ)
 first_lines = text_of (happened (founds 5)) ∷ text_of (done 1) ∷ []
 
--- it with the line of an enrolment, and with the one that strikes that out
+-- the journal with the line of an enrolment, and with the one that strikes that out
 abbrev pub second_lines : List (List ℕ)
 second_lines = text_of (happened (founds 5)) ∷ text_of (happened enrols) ∷ []
 
@@ -138,7 +138,7 @@ pub record HasBodies {D : Type 0} (g : DiskGhosts D) (log : SealedLog D g)
   pub clean : IsTrue (g.is_clean log.disk)
   pub seen : g.seen log.disk ≡ sealed_text bodies
 
--- so many calls of the disk of a log have failed
+-- of the disk of a log so many calls have failed
 abbrev pub HasMet : {D : Type 0} (g : DiskGhosts D) → SealedLog D g → ℕ → Type 0
 HasMet g log faults = g.faults log.disk ≡ faults
 

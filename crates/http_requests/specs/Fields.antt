@@ -9,6 +9,7 @@ use Rattle.review_policy.specs.Words.{is_token}
 use Rattle.http_requests.specs.Numbers.{is_number}
 use Rattle.http_requests.specs.declared.field.Found.{Found}
 use Rattle.http_requests.specs.declared.field.Found.TheVariants.{Absent, One, Several}
+use Rattle.http_requests.specs.declared.length.TheConstants.{MAX_BODY}
 use Rattle.http_requests.specs.declared.refusal.Refusal.{Refusal}
 use Rattle.http_requests.specs.declared.refusal.Refusal.TheVariants.{BadHost, TransferEncoding}
 use Rattle.http_requests.specs.declared.refusal.Refusal.TheVariants.{BadLength, TooLarge}
@@ -65,7 +66,7 @@ IsFoundWithin n Several = ⊤
 
 -- the most bytes that a body may have
 abbrev pub most_body : ℕ
-most_body = 262144
+most_body = MAX_BODY
 
 abbrev pub length_of_text : List ℕ → Result ℕ Refusal
 length_of_text v = if is_number v

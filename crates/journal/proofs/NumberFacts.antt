@@ -10,7 +10,6 @@ use Rattle.review_policy.specs.declared.act.RevisionAct.{RevisionAct}
 use Rattle.json_requests.specs.Members.{◌>>=◌, digest_at, if_revision, name_at, revision_at, roles_at, text_at, vote_at, whole_at, word_at}
 use Rattle.json_requests.specs.Requests.{value_of}
 use Rattle.office_policy.specs.Formed.{IsNumber}
-use Rattle.office_policy.specs.EventForms.{HasNumber}
 use Rattle.journal.specs.Forms.{IsNumbered}
 use Rattle.journal.specs.Lines.{Line, strike}
 use Rattle.journal.specs.Read.{acted_at, acted_on_profile_at, acted_on_revision_at, caller_at, candidate_at, candidate_in, done_at, enrolled_at, founded_at, line_at, listed_at, submitted_at, voted_at}

@@ -88,7 +88,7 @@ begins_on a b c first then_ = record {
   is = then_.is ∙ ap (λ l. l ++ then_.more) first.is ∙ append_assoc a first.more then_.more;
 }
 
--- and so do their texts
+-- the text of a journal that begins with another begins with that one's
 pub text_begins : (a b : List (List ℕ)) → BeginsWith a b
     → BeginsWith (sealed_text a) (sealed_text b)
 text_begins a b begins = record {
@@ -124,8 +124,8 @@ module _ {O J : Type 0} (m : Meaning O) (w : Writing J) where
   KeepsJournal old new = IsTrue (goes_on new)
       → IsTrue (goes_on old) × HasStruck (w.bodies old.journal) (w.bodies new.journal)
 
-  -- A journal that goes on went on before, and has what it had, and just this entry behind that: before
-  -- it stands the line that says that the last event is carried out, where no line said so.
+  -- A journal that goes on went on before, and has what it had, and just this entry behind that. Where no
+  -- line said that the last event is carried out, one does before the entry.
   abbrev pub Adds : Entry → (old new : Journaled O J) → Type 0
   Adds no_entry old new = IsTrue (goes_on new)
       → IsTrue (goes_on old) × (w.bodies new.journal ≡ w.bodies old.journal)
@@ -155,7 +155,7 @@ module _ {O J : Type 0} (m : Meaning O) (w : Writing J) where
       let none : IsTrue (not x.has_stray) = (and_parts (w.is_open x.journal) _ goes).1 in
       false≢true (subst (λ b. IsTrue (not b)) has_stray none)
 
-  -- this event is a stray of its office, or of its journal
+  -- an event is a stray of its office, or of its journal
   abbrev pub HasAsStray : Event → Journaled O J → Type 0
   HasAsStray e x = m.is_stray e x.office ⊎ IsUnstruck e x
 
@@ -296,8 +296,8 @@ module _ {O J : Type 0} (m : Meaning O) (w : Writing J) where
   IsStruckOr r old new (Some told) = IsStray r old new told
       ⊎ ((fault : Fault) × (told ≡ answers.Fault fault) × IsHalfStruck old new fault)
 
-  -- the event of the last line, which this request asked for, was taken back as far as that could be, and
-  -- this is told where it still stands
+  -- the event of the last line, which this request asked for, was taken back as far as that could be; what
+  -- is told, where it still stands
   pub record IsTakenBack (r : Request) (old new : Journaled O J) (told : Option Answer)
       : Type 0 where
     pub leaves : LeavesAll m old.office new.office
@@ -335,7 +335,7 @@ module _ {O J : Type 0} (m : Meaning O) (w : Writing J) where
         → HasSettled (w.bodies old.journal) (w.bodies new.journal)
     pub failed : IfErr result (λ fault. w.is_clean new.journal → IsTrue (goes_on new)
         → w.bodies new.journal ≡ w.bodies old.journal)
-    -- it is that of the call that failed, or `memory`
+    -- the fault is that of the call that failed, or `memory`
     pub cause : IfErr result (λ fault. w.is_clean new.journal
         → IsMet w old.journal new.journal fault)
     -- a crash leaves what it could leave before, or the journal with that line or a part of it

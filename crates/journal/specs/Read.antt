@@ -11,7 +11,7 @@ use Rattle.review_policy.specs.declared.act.RevisionAct.{RevisionAct}
 use Rattle.json_requests.specs.Members.{◌>>=◌, text_at, word_at, name_at, revision_at, digest_at}
 use Rattle.json_requests.specs.Members.{vote_at, roles_at, whole_at}
 use Rattle.json_requests.specs.Requests.{value_of}
-use Rattle.office_policy.specs.History.{Event, founded, enrolled, submitted, voted}
+use Rattle.office_policy.specs.History.{founded, enrolled, submitted, voted}
 use Rattle.office_policy.specs.History.{on_revision, on_profile}
 use Rattle.journal.specs.Lines.{Line, happened, strike, done}
 

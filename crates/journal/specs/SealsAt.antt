@@ -10,7 +10,7 @@ abbrev pub IsSealAt : ℕ → List (List ℕ) → Option (List ℕ) → Type 0
 IsSealAt line bodies (Some seal) = (line ≤ length bodies) × (seal ≡ seal_of (take line bodies))
 IsSealAt line bodies None = length bodies < line
 
--- the same where it is asked for; and none where it isn't
+-- the seal of so many of these lines, where it is asked for; none where it isn't
 abbrev pub IsSealAsked : Option ℕ → List (List ℕ) → Option (List ℕ) → Type 0
 IsSealAsked None bodies at = at ≡ None
 IsSealAsked (Some line) bodies at = IsSealAt line bodies at
@@ -27,7 +27,7 @@ abbrev pub Finds : SealAt → (taken : ℕ) → Option (List ℕ) → Type 0
 Finds kept taken (Some seal) = (kept.line ≤ taken) × (seal ≡ kept.seal)
 Finds kept taken None = taken < kept.line
 
--- the same where it is asked for; and none where it isn't
+-- what is kept when so many lines were taken, where it is asked for; none where it isn't
 abbrev pub IsFound : Option ℕ → SealAt → (taken : ℕ) → Option (List ℕ) → Type 0
 IsFound None kept taken at = at ≡ None
 IsFound (Some line) kept taken at = Finds kept taken at

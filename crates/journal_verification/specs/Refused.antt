@@ -42,8 +42,8 @@ module _ (bytes : Option (List ℕ)) where
   IsWrongAt line (why.Unreplayed causes.OtherText) = IsFirstUnlawful line HasOtherText
   IsWrongAt line (why.Unreplayed (causes.Fault fault)) = Unit {0}
 
-  -- over a connection that has nothing yet no office is built anew of it, from this line on and for
-  -- this reason; and no lawful history has it, unless there is a fault
+  -- over a connection that has nothing yet no office is built anew of the journal, from this line on
+  -- and for this reason. No lawful history has that journal, unless there is a fault
   pub record IsNotRebuilt {S : Type 0} (g : Ghosts S) (refusal : Refused) : Type 0 where
     pub conn : Held S
     pub idle : IsIdle (state g conn)

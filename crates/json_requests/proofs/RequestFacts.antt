@@ -23,7 +23,7 @@ use Rattle.json_requests.specs.declared.fault.LineFault.TheVariants.{NotJson, No
 use Rattle.json_requests.specs.Faults.{Gives, Reads}
 use Rattle.json_requests.specs.Members.{◌>>=◌, roles_of}
 use Rattle.json_requests.specs.Plain.{PlainRequest, plain}
-use Rattle.json_requests.specs.Requests.{asked, request_at, request_in, request_of, or_not_a_request, value_of}
+use Rattle.json_requests.specs.Requests.{asked, max_line, request_at, request_in, request_of, or_not_a_request, value_of}
 
 -- ---- the value of a line
 
@@ -49,9 +49,9 @@ line_is_none line h =
       | inr wrong ↦ rw wrong refl
     ]
 
-pub asked_is : (line : List ℕ) → length line ≤ 300000 → asked line ≡ request_in line
+pub asked_is : (line : List ℕ) → length line ≤ max_line → asked line ≡ request_in line
 unfolding asked
-asked_is line small = rw (le-ltb 300000 (length line) small) refl
+asked_is line small = rw (le-ltb max_line (length line) small) refl
 
 pub line_reads : (r : Result Request LineFault) (o : Option PlainRequest) → Gives plain r o → Reads r (or_not_a_request o)
 line_reads (Ok r) o g = rw g refl

@@ -38,7 +38,7 @@ kind_word revisions = codes "revisions"
 abbrev pub profile_kinds : List Kind
 profile_kinds = map act_on_profile profile_acts ++ map see_profile profile_views
 
--- and those of a revision's
+-- the kinds of the acts and views of a revision or a profile
 abbrev pub subject_kinds : List Kind
 subject_kinds =
     map act_on_revision revision_acts ++ (map see_revision revision_views ++ profile_kinds)
@@ -77,6 +77,6 @@ members_of (see_profile view) = profile_members
 members_of me = []
 members_of revisions = codes "team" ∷ codes "profile" ∷ codes "before" ∷ []
 
--- these members, and those that each line has
+-- the members of a line: those that each line has, and these
 abbrev pub line_members : List (List ℕ) → List (List ℕ)
 line_members members = codes "ask" ∷ codes "token" ∷ members

@@ -115,9 +115,13 @@ request_of (Some d) = or_not_a_request (request_at d)
 unfoldable pub request_in : List ℕ → Result PlainRequest BadLine
 request_in line = request_of (value_of line)
 
+-- how many bytes a line may have
+abbrev pub max_line : ℕ
+max_line = 300000
+
 -- what a line asks: it is too long, or not JSON, or no request, or a request, the first that holds
 unfoldable pub asked : List ℕ → Result PlainRequest BadLine
-asked line = if nat_lt 300000 (length line) then Err bad.TooLong else request_in line
+asked line = if nat_lt max_line (length line) then Err bad.TooLong else request_in line
 
 -- the line asks this request
 abbrev pub Asks : List ℕ → Request → Type 0

@@ -11,7 +11,7 @@ use std::alloc::{AllocError, Global};
 /// Why a line is no request.
 #[derive(Clone, Copy, Debug)]
 pub enum BadLine {
-    /// It is longer than 300,000 bytes.
+    /// It is longer than a line may be.
     TooLong,
     /// It isn't JSON.
     NotJson,

@@ -8,6 +8,7 @@ use Rattle.profile_text.specs.declared.fault.DocFault.{DocFault}
 use Rattle.profile_text.specs.declared.fault.DocFault.TheVariants.{NotJson, TooLong}
 use Rattle.profile_text.specs.declared.profile.Profile.{Profile}
 use Rattle.profile_text.specs.Reading.{Gives, reading_of, stored_reading_of, most_bytes}
+use Rattle.profile_commands.specs.declared.document.TheConstants.{MOST_BYTES}
 use Rattle.profile_commands.specs.declared.fault.FileFault.{FileFault}
 use Rattle.profile_commands.specs.declared.fault.FileFault.TheVariants as file
 use Rattle.profile_commands.specs.declared.execution.Execution.{Execution}
@@ -25,8 +26,8 @@ unfolding reading_of stored_reading_of
 too_long bytes more = rw (lt-ltb most_bytes (length bytes) more) refl
 
 -- what was read of a file, all of it or its first 262,145 bytes, reads as the file does
-same_reading : (all bytes rest : List ℕ) → all ≡ bytes ++ rest → (length bytes < 262145 → rest ≡ []) → reading_of all ≡ reading_of bytes
-same_reading all bytes rest parts end = elim (cases_lt (length bytes) 262145) [
+same_reading : (all bytes rest : List ℕ) → all ≡ bytes ++ rest → (length bytes < MOST_BYTES → rest ≡ []) → reading_of all ≡ reading_of bytes
+same_reading all bytes rest parts end = elim (cases_lt (length bytes) MOST_BYTES) [
   | inl short ↦ ap reading_of (parts ∙ ap (λ l. bytes ++ l) (end short) ∙ append-nil bytes)
   | inr long ↦
       let more : most_bytes < length bytes = omega arith in
@@ -35,7 +36,7 @@ same_reading all bytes rest parts end = elim (cases_lt (length bytes) 262145) [
 ]
 
 -- the same of a reader whose bytes are known
-pub read_whole : (old new : Option (List ℕ)) (bytes : List ℕ) → Consumes old new bytes → (length bytes < 262145 → IsAtEnd new)
+pub read_whole : (old new : Option (List ℕ)) (bytes : List ℕ) → Consumes old new bytes → (length bytes < MOST_BYTES → IsAtEnd new)
     → IfSome old (λ all. reading_of all ≡ reading_of bytes)
 read_whole None new bytes consumed end = tt
 read_whole (Some all) None bytes consumed end = absurd consumed

@@ -28,7 +28,7 @@ abbrev pub file_fault_of : NoBytes → FileFault
 file_fault_of Unopened = file.Unread unread.Failed
 file_fault_of (Unread why) = file.Unread why
 
--- the same of a command that reads one file
+-- the fault of a command that reads one file, where that gave no bytes
 abbrev pub fault_of : NoBytes → CommandFault
 fault_of Unopened = fault.Open
 fault_of (Unread why) = fault.File (file.Unread why)
@@ -36,14 +36,14 @@ fault_of (Unread why) = fault.File (file.Unread why)
 -- of a file of which this is known as it is opened and read
 module _ {F : Type 0} (Opened : Result F Error → Type 0)
     (Gives : F → F → Result ℕ Error → List ℕ → Type 0) where
-  -- it can't be opened; or it was, and wasn't read
+  -- the file can't be opened; or it was, and wasn't read
   abbrev pub AreNoBytes : NoBytes → Type 0
   AreNoBytes Unopened = (e : Error) × Opened (Err e)
   AreNoBytes (Unread why) = (file : F) × Opened (Ok file) × FailsToRead Gives why
 
-  -- and of its bytes
+  -- where something is known of its bytes too
   module _ (bytes_of : F → Option (List ℕ)) where
-    -- it was opened and has no document, for this: it wasn't read, or its bytes have this fault
+    -- the file was opened and has no document, for this: it wasn't read, or its bytes have this fault
     abbrev pub IsRefusedIn : F → FileFault → Type 0
     IsRefusedIn it (file.Unread why) = FailsToRead Gives why
     IsRefusedIn it why = IfSome (bytes_of it) (λ bytes. RefusesAs bytes why)
@@ -51,7 +51,7 @@ module _ {F : Type 0} (Opened : Result F Error → Type 0)
     abbrev pub IsRefused : FileFault → Type 0
     IsRefused why = (it : F) × Opened (Ok it) × IsRefusedIn it why
 
-    -- it can't be opened, or has no document
+    -- the file can't be opened, or has no document
     abbrev pub HasNoDocument : FileFault → Type 0
     HasNoDocument why =
         ((why ≡ file.Unread unread.Failed) × ((e : Error) × Opened (Err e))) ⊎ IsRefused why

@@ -36,12 +36,12 @@ findings_status (byte ∷ text) = 1
 
 -- of a file of which this is known as it is opened, and whose bytes are these
 module _ {F : Type 0} (Opened : Result F Error → Type 0) (bytes_of : F → Option (List ℕ)) where
-  -- it was opened, and gave bytes that read as its own, where those are known
+  -- the file was opened, and gave bytes that read as its own, where those are known
   abbrev pub AreBytesOf : List ℕ → Type 0
   AreBytesOf bytes = (file : F) × Opened (Ok file)
       × IfSome (bytes_of file) (λ all. reading_of all ≡ reading_of bytes)
 
-  -- it was opened, and this document is in it, where its bytes are known
+  -- the file was opened, and this document is in it, where its bytes are known
   abbrev pub IsDocumentIn : Profile → Type 0
   IsDocumentIn profile = (file : F) × Opened (Ok file)
       × IfSome (bytes_of file) (λ all. reading_of all ≡ Ok profile)

@@ -7,6 +7,7 @@ use Rattle.streams.specs.declared.step.ReadStep.TheVariants as step
 use Rattle.streams.specs.declared.up_to.Unread.{Unread}
 use Rattle.streams.specs.declared.up_to.Unread.TheVariants.{Failed, TooManyReads, NoMemory}
 use Rattle.command_host.specs.FailedCalls.{CallFailed}
+use Rattle.reading_commands.specs.declared.reading.TheConstants.{MOST_READS}
 
 -- behind bytes of a file that were read, these are read: so many of all, or all that there are
 pub record HasReadOn (old new : Option (List ℕ)) (before after : List ℕ) (most : ℕ) : Type 0 where
@@ -36,7 +37,7 @@ module _ {F : Type 0} (Gives : F → F → Result ℕ Error → List ℕ → Typ
   pub record HaveCalled : Type 0 where
     pub first : F
     pub last : F
-    pub calls : AreCalls 600000 first last
+    pub calls : AreCalls MOST_READS first last
 
   -- a call that is told to have failed has
   abbrev pub HasFailedIf : ReadStep → Type 0

@@ -65,7 +65,7 @@ module _ {D : Type 0} (g : Ghosts D) where
   IsCaused old new (Undone fault) = MoreFaults (g.faults old) (g.faults new)
   IsCaused old new (Lost fault) = MoreFaults (g.faults old) (g.faults new)
 
-  -- and the fault is that of such a call
+  -- the fault of a line that wasn't put is that of a call that failed
   abbrev pub NamesCall : D → D → Written → Type 0
   NamesCall old new Whole = Unit {0}
   NamesCall old new (Undone fault) = IsOfCall g old new fault

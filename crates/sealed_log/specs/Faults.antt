@@ -48,6 +48,6 @@ module _ {D : Type 0} (g : Ghosts D) where
   abbrev pub IsOfCall : (old new : D) → LogFault → Type 0
   IsOfCall old new fault = HasFailed old new (is_full fault)
 
-  -- or there was no memory
+  -- a call between the two failed, and this is its fault; or there was no memory
   abbrev pub IsMetBetween : (old new : D) → LogFault → Type 0
   IsMetBetween old new fault = (fault ≡ NoMemory witness) ⊎ IsOfCall old new fault

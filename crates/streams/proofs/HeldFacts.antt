@@ -6,6 +6,7 @@ use Rattle.std.proofs.lemmas.List.{nil_from_length}
 use Rattle.std.proofs.lemmas.List.Elements.{All-nil, All-append}
 use Rattle.streams.specs.Held.{Held, Holds, IsDropped, HasLine, nothing, size}
 use Rattle.streams.specs.Lines.{first_line, after_line, NoFeed}
+use Rattle.streams.specs.declared.lines.TheConstants.{MAX_LINE}
 use Rattle.streams.proofs.LineFacts.{first_line-front, after_line-front, has_line-front, has_line-not}
 
 abbrev IsNoFeed : ℕ → Type 0
@@ -51,7 +52,7 @@ holds_some held bytes holds some = rw (holds.parts) (some_held held.too_long hol
 
 -- ---- the first line
 
-long_front : (too_long : Bool) (front : List ℕ) → IsDropped too_long front → too_long ≡ true → 300000 < length front
+long_front : (too_long : Bool) (front : List ℕ) → IsDropped too_long front → too_long ≡ true → MAX_LINE < length front
 long_front true front dropped is = dropped.1
 long_front false front dropped is = cc
 
@@ -60,8 +61,8 @@ short_front false front dropped is = dropped
 short_front true front dropped is = cc
 
 -- it is too long where bytes of it were dropped, or what there is of it is
-pub first_long : (held : Held) (bytes : List ℕ) → Holds held bytes → (held.too_long ≡ true) ⊎ (300000 < length (first_line held.bytes))
-    → 300000 < length (first_line bytes)
+pub first_long : (held : Held) (bytes : List ℕ) → Holds held bytes → (held.too_long ≡ true) ⊎ (MAX_LINE < length (first_line held.bytes))
+    → MAX_LINE < length (first_line bytes)
 first_long held bytes holds why =
     let all = ap length (holds_first held bytes holds) ∙ length-append holds.front (first_line held.bytes) in
     elim why [
@@ -77,17 +78,17 @@ first_short held bytes holds is =
 
 -- what is held of an unfinished line is dropped just where it is too long
 abbrev pub IsDropping : Held → Bool → Type 0
-IsDropping held true = (held.too_long ≡ true) ⊎ (300000 < length held.bytes)
+IsDropping held true = (held.too_long ≡ true) ⊎ (MAX_LINE < length held.bytes)
 IsDropping held false = held.too_long ≡ false
 
-pub dropping_by_length : (held : Held) (n : ℕ) → held.too_long ≡ false → n ≡ length held.bytes → IsDropping held (nat_lt 300000 n)
-dropping_by_length held n is same = elim (cases_lt 300000 n) [
-  | inl long ↦ rw (lt-ltb 300000 n long) (inr (omega (arith, long, same)))
-  | inr short ↦ rw (le-ltb 300000 n short) is
+pub dropping_by_length : (held : Held) (n : ℕ) → held.too_long ≡ false → n ≡ length held.bytes → IsDropping held (nat_lt MAX_LINE n)
+dropping_by_length held n is same = elim (cases_lt MAX_LINE n) [
+  | inl long ↦ rw (lt-ltb MAX_LINE n long) (inr (omega (arith, long, same)))
+  | inr short ↦ rw (le-ltb MAX_LINE n short) is
 ]
 
 -- an unfinished line that is too long
-long_unfinished : (held : Held) (bytes : List ℕ) → Holds held bytes → NoFeed held.bytes → IsDropping held true → 300000 < length bytes
+long_unfinished : (held : Held) (bytes : List ℕ) → Holds held bytes → NoFeed held.bytes → IsDropping held true → MAX_LINE < length bytes
 long_unfinished held bytes holds none why =
     let all = ap length holds.parts ∙ length-append holds.front held.bytes in
     elim why [

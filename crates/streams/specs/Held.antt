@@ -2,6 +2,7 @@
 use Rattle.std.specs.Prelude.{◌≡◌, ◌≢◌, ℕ, ◌+◌, ◌<◌, ◌≤◌, Bool, true, false, List, [], ◌∷◌, ◌++◌}
 use Rattle.std.specs.Prelude.{length, slice_index, if◌then◌else◌}
 use Rattle.streams.specs.Lines.{first_line, after_line, NoFeed}
+use Rattle.streams.specs.declared.lines.TheConstants.{MAX_LINE, ROOM}
 
 -- bytes, and whether others of the line that they begin with were dropped, since it is too long
 pub record Held : Type 0 where
@@ -11,10 +12,10 @@ pub record Held : Type 0 where
 -- in the buffer the bytes from a start to an end are held, and the first line feed among them is
 -- found, if there is one
 pub record IsSound (buffer : List ℕ) (start feed end : ℕ) : Type 0 where
-  pub room : length buffer ≡ 300001
+  pub room : length buffer ≡ ROOM
   pub ordered : start ≤ feed
   pub within : feed ≤ end
-  pub in_bounds : end ≤ 300001
+  pub in_bounds : end ≤ ROOM
   pub before : (k : ℕ) → start ≤ k → k < feed → slice_index buffer k ≢ 10
   pub at : feed < end → slice_index buffer feed ≡ 10
 
@@ -24,7 +25,7 @@ nothing = record { bytes = []; too_long = false }
 -- what may have been dropped before the bytes
 abbrev pub IsDropped : Bool → List ℕ → Type 0
 IsDropped false front = front ≡ []
-IsDropped true front = NoFeed front × (300000 < length front)
+IsDropped true front = NoFeed front × (MAX_LINE < length front)
 
 -- what is held stands for these bytes of the stream
 pub record Holds (held : Held) (bytes : List ℕ) : Type 0 where

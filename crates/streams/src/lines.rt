@@ -20,7 +20,7 @@ use thiserror::Error;
 pub const MAX_LINE: usize = 300_000;
 
 // Room for a line and its line feed.
-const ROOM: usize = 300_001;
+const ROOM: usize = MAX_LINE + 1;
 
 /// A line has more than [`MAX_LINE`] bytes, which were dropped.
 #[derive(Clone, Copy, Debug, Drop, PartialEq, Eq, Error)]
@@ -93,8 +93,8 @@ impl Lines {
     /// It is too long.
     pub fn line(&self) -> Result<&[u8], TooLong>
         ensures { (bytes : List ℕ) → Holds self.now bytes → MatchResult result
-            (λ line. (line.now ≡ first_line bytes) × (length line.now ≤ 300000))
-            (λ _. 300000 < length (first_line bytes)) }
+            (λ line. (line.now ≡ first_line bytes) × (length line.now ≤ MAX_LINE))
+            (λ _. MAX_LINE < length (first_line bytes)) }
     {
         let (start, feed) = (self.start, self.feed);
         if self.too_long || feed - start > MAX_LINE {

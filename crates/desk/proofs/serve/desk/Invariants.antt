@@ -1,5 +1,6 @@
 use Rattle.std.proofs.Common.{◌≡◌, ◌+◌, ◌*◌, ◌≤◌}
 use Rattle.streams.specs.Found.{work}
+use Rattle.desk.specs.declared.serve.TheConstants.{MAX_READS}
 use Rattle.desk.proofs.ServeFacts.{Progress}
 use Rattle.desk.proofs.serve.desk.Given as goal
 
@@ -12,7 +13,7 @@ invariant-loop-office g l =
       calls : l.reader.calls ≤ l.most_calls;
       read_faults : l.reader.faults ≡ l.fn.reader.faults;
       write_faults : l.writer.faults ≡ l.fn.writer.faults;
-      number : l.answered + work l.most_calls l.reader.calls l.lines ≤ 4194304 * 300003;
+      number : l.answered + work l.most_calls l.reader.calls l.lines ≤ MAX_READS * 300003;
     }
 
 abbrev pub decreases-loop-office : goal.decreases-loop-office

@@ -1,4 +1,4 @@
-use Rattle.std.proofs.Common.{◌≡◌, ◌∙◌, refl, arith, rules}
+use Rattle.std.proofs.Common.{◌∙◌, refl, arith, rules}
 use Rattle.desk_http.specs.Clocks.{IsLeft}
 use Rattle.desk_http.specs.Endings.{GaveNone, IsRead}
 use Rattle.desk_http.proofs.EndingFacts.{read_within, reads_more, reads_none, taken_most, taken_whole}

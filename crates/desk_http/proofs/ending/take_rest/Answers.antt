@@ -1,4 +1,4 @@
-use Rattle.std.proofs.Common.{◌≡◌, ◌∙◌, ap, rules}
+use Rattle.std.proofs.Common.{◌≡◌, ◌∙◌, rules}
 use Rattle.std.specs.Duration.{as_nanos}
 use Rattle.desk_http.proofs.EndingFacts.{has_taken}
 use Rattle.desk_http.proofs.ending.take_rest.Goals as goal

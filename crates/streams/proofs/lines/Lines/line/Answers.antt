@@ -2,6 +2,7 @@ use Rattle.std.proofs.Common.{◌≡◌, ◌∙◌, ◌-◌, ◌<◌, List, ℕ,
 use Rattle.std.specs.Prelude.{slice_range}
 use Rattle.streams.specs.Held.{Held, Holds}
 use Rattle.streams.specs.Lines.{first_line}
+use Rattle.streams.specs.declared.lines.TheConstants.{MAX_LINE}
 use Rattle.streams.proofs.BufferFacts.{held_first, length_first}
 use Rattle.streams.proofs.HeldFacts.{first_long, first_short}
 use Rattle.streams.proofs.lines.Lines.line.Goals as goal
@@ -18,7 +19,7 @@ returns-then-self c = λ bytes holds.
     elim c.then-self.branch [
       | then-self-via-then-self w ↦ first_long held bytes in_part (inl w.if-self.true)
       | then-self-via-else-self+then-feed-start-gt-MAX_LINE w ↦
-          let long : 300000 < length (first_line part) =
+          let long : MAX_LINE < length (first_line part) =
           omega (arith, w.if-feed-start-gt-MAX_LINE.true, ap length first, length_is) in
           first_long held bytes in_part (inr long)
     ]
