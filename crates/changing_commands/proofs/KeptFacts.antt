@@ -1,5 +1,5 @@
 -- An office that is kept with a journal: what is known of it as it is founded, opened, served and closed.
-use Rattle.std.proofs.Common.{◌≡◌, ◌∙◌, ℕ, Bool, List, [], ◌∷◌, ◌++◌, arith, length, length-append, take, Option, None, Result, Ok, Err, IsTrue, true, inl, inr, refl, subst, sym, ap}
+use Rattle.std.proofs.Common.{◌≡◌, ◌∙◌, ℕ, Bool, List, [], ◌∷◌, ◌++◌, arith, length, length-append, take, Option, Some, None, Result, Ok, Err, IsTrue, true, inl, inr, refl, subst, sym, ap}
 use Rattle.std.specs.Prelude.{IfErr, OnOk, ⊤}
 use Rattle.std.proofs.lemmas.List.Elements.{All-cons, All-nil}
 use Rattle.std.specs.declared.io.Error.{Error}
@@ -29,11 +29,11 @@ use Rattle.command_host.specs.declared.fault.CommandFault.{CommandFault}
 use Rattle.command_host.specs.declared.fault.CommandFault.TheVariants as fault
 use Rattle.changing_commands.specs.declared.founding.Founding.{Founding}
 use Rattle.command_host.specs.declared.no_file.NoFile.{NoFile}
-use Rattle.changing_commands.specs.Foundings.{founding_event, IsFoundedIn}
+use Rattle.changing_commands.specs.Foundings.{founding_event, Described, IsFoundedIn}
 use Rattle.changing_commands.specs.Journals.{begun_with, IfJournaled, IsBegunBy, IsClosedKept, IsKeptOffice, IsServedWith, mark_beside}
-use Rattle.changing_commands.specs.Journals.{IsUnfoundedBehind, WasFoundedBehind}
+use Rattle.changing_commands.specs.Journals.{IsUnfoundedBehind, IsUnfoundedWith, WasFoundedBehind}
 use Rattle.command_host.specs.declared.databases.Databases as databases
-use Rattle.command_host.specs.Openings.{IsEnded, IsFirstOf}
+use Rattle.command_host.specs.Openings.{IsClosed, IsEnded, IsFirstOf}
 
 -- nothing is sealed in a file where what is sealed ends at its beginning
 pub none_sealed : (file : List ℕ) (found : Through) → IsThrough file found → found.at ≡ 0 → told file ≡ []
@@ -89,10 +89,16 @@ pub failed_without : (given : Option (List ℕ)) (Without : CommandFault → Typ
 failed_without given Without With (Ok done) is failed = tt
 failed_without given Without With (Err why) is failed = subst (λ (o : Option (List ℕ)). IfJournaled o (Without why) (λ file. With file why)) (sym is) failed
 
-module _ {S D L : Type 0} (g : Ghosts S) (f : DiskGhosts L) (Found : Result L NoFile → Type 0) (d : databases.Ghosts D (Held S)) (path : List ℕ) (mark : ℕ) (is_marked : Bool)
+-- and with one
+pub failed_with : (given : Option (List ℕ)) (file : List ℕ) (Without : CommandFault → Type 0) (With : List ℕ → CommandFault → Type 0) (r : Result (Unit {0}) CommandFault)
+    → given ≡ Some file → IfErr r (With file) → IfErr r (λ why. IfJournaled given (Without why) (λ file. With file why))
+failed_with given file Without With (Ok done) is failed = tt
+failed_with given file Without With (Err why) is failed = subst (λ (o : Option (List ℕ)). IfJournaled o (Without why) (λ file. With file why)) (sym is) failed
+
+module _ {S D C L : Type 0} (g : Ghosts S) (f : DiskGhosts L) (Found : Result L NoFile → Type 0) (d : databases.Ghosts D (Held S) C) (path : List ℕ) (mark : ℕ) (is_marked : Bool)
     (Done : (old new : Journaled (Held S) (SealedLog L f)) → Type 0) (Stops : CommandFault → (old new : Journaled (Held S) (SealedLog L f)) → Type 0) where
   pub was_kept : (old new : Journaled (Held S) (SealedLog L f)) → IsKeptOffice g f Found (d.opened path) mark old → (served closed result : Result (Unit {0}) CommandFault)
-      → OnOk served (Done old new) → IfErr served (λ why. Stops why old new) → OnOk closed (IsClosedKept g f is_marked d.closed new) → IsClosedKept g f is_marked (IsEnded d) new
+      → OnOk served (Done old new) → IfErr served (λ why. Stops why old new) → OnOk closed (IsClosedKept g f is_marked (IsClosed d.closed) new) → IsClosedKept g f is_marked (IsEnded d) new
       → IfErr closed (λ why. why ≡ fault.Close) → IsFirstOf served closed result → IsServedWith g f Found d path mark is_marked Done Stops result
   was_kept old new office (Ok a) (Ok b) result done stops closed ended why is =
       subst (λ r. IsServedWith g f Found d path mark is_marked Done Stops r) (sym is) (record { old = old; new = new; office = office; done = done; ended = closed })
@@ -105,20 +111,20 @@ module _ {S D L : Type 0} (g : Ghosts S) (f : DiskGhosts L) (Found : Result L No
 
   -- nothing was done with it
   pub was_only_kept : (x : Journaled (Held S) (SealedLog L f)) → IsKeptOffice g f Found (d.opened path) mark x → (closed : Result (Unit {0}) CommandFault)
-      → Done x x → OnOk closed (IsClosedKept g f is_marked d.closed x) → IsClosedKept g f is_marked (IsEnded d) x
+      → Done x x → OnOk closed (IsClosedKept g f is_marked (IsClosed d.closed) x) → IsClosedKept g f is_marked (IsEnded d) x
       → IfErr closed (λ why. why ≡ fault.Close) → IsServedWith g f Found d path mark is_marked Done Stops closed
   was_only_kept x office closed done shut ended why = was_kept x x office (Ok (tt {0})) closed closed done (tt {0}) shut ended why refl
 
-module _ {S D L : Type 0} (g : Ghosts S) (f : DiskGhosts L) (Created : Result L NoFile → Type 0) (d : databases.Ghosts D (Held S)) (path : List ℕ) where
+module _ {S D C L : Type 0} (g : Ghosts S) (f : DiskGhosts L) (Created : Result L NoFile → Type 0) (d : databases.Ghosts D (Held S) C) (path : List ℕ) where
   pub founded_behind : (founding : Founding) (log : SealedLog L f) (x : Journaled (Held S) (SealedLog L f)) (r : Result (Unit {0}) CommandFault) → IsBegunBy f Created founding log
-      → x ≡ begun_with x.office log → IsFoundedIn g (d.opened path) (Ok founding) x.office → OnOk r (IsClosedKept g f true d.closed x)
-      → OnOk r (WasFoundedBehind g f Created (d.opened path) d.closed founding)
+      → x ≡ begun_with x.office log → IsFoundedIn g (d.opened path) (Ok founding) x.office → OnOk r (IsClosedKept g f true (IsClosed d.closed) x)
+      → OnOk r (WasFoundedBehind g f Created (d.opened path) (IsClosed d.closed) founding)
   founded_behind founding log x (Ok done) begun is founded closed = record {
     log = log;
     journal = begun;
     office = x.office;
     founded = founded;
-    ended = subst (λ (y : Journaled (Held S) (SealedLog L f)). IsClosedKept g f true d.closed y) is closed;
+    ended = subst (λ (y : Journaled (Held S) (SealedLog L f)). IsClosedKept g f true (IsClosed d.closed) y) is closed;
   }
   founded_behind founding log x (Err why) begun is founded closed = tt
 
@@ -131,6 +137,12 @@ module _ {S D L : Type 0} (g : Ghosts S) (f : DiskGhosts L) (Created : Result L 
     journal = begun;
     office = inr (closed, (x.office, founded, subst (λ (y : Journaled (Held S) (SealedLog L f)). IsClosedKept g f true (IsEnded d) y) is ended));
   })
+
+  -- the founding that words describe
+  pub unfounded_with : (Removed : Result ⊤ Error → Type 0) (described : Described) (founding : Founding) (r : Result (Unit {0}) CommandFault) → described ≡ Ok founding
+      → IfErr r (IsUnfoundedBehind g f Created Removed d path founding) → IfErr r (IsUnfoundedWith g f Created Removed d path described)
+  unfounded_with Removed described founding (Ok done) is failed = tt
+  unfounded_with Removed described founding (Err why) is failed = inr (founding, is, inr failed)
 
 module _ {S L : Type 0} (g : Ghosts S) (f : DiskGhosts L) (is_marked : Bool) (Closed : Held S → Option ℕ → Type 0) (x last : Journaled (Held S) (SealedLog L f)) (came : Result ⊤ Fault)
     (settled : IsSettled (meaning_over g) (in_log f) x last came) (parts : Held S × SealedLog L f) (are : parts ≡ (last.office, last.journal)) (mark : Option ℕ)

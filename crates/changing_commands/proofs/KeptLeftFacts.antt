@@ -21,6 +21,7 @@ use Rattle.journal.specs.declared.journaled.Journaled.{Journaled}
 use Rattle.office_desk.specs.Meant.{meaning_over}
 use Rattle.command_host.specs.declared.no_file.NoFile.{NoFile}
 use Rattle.command_host.specs.HostFiles.{IsClosedInto, IsFoundIn}
+use Rattle.command_host.specs.Openings.{IsClosed}
 use Rattle.changing_commands.specs.Foundings.{founding_event}
 use Rattle.changing_commands.specs.Journals.{IsClosedKept, IsKeptOffice, mark_beside}
 use Rattle.changing_commands.specs.KeptHosts.{HoldBoth, KeptDeskIsLeft, KeptExchangesAreLeft, KeptFoundingIsLeft, MarkingIsLeft}
@@ -29,7 +30,7 @@ use Rattle.changing_commands.proofs.LeftFacts.{left, served}
 
 module _ {D L : Type 0} (g : disk.Ghosts D) (f : disk.Ghosts L) where
   -- an office with its journal that was of a history, and was closed, is left so
-  ended : (is_marked : Bool) (h : History) (x : Journaled (Held (FileStore D g)) (SealedLog L f)) (it : IsClosedKept (over_files {g = g}) f is_marked IsClosedInto x)
+  ended : (is_marked : Bool) (h : History) (x : Journaled (Held (FileStore D g)) (SealedLog L f)) (it : IsClosedKept (over_files {g = g}) f is_marked (IsClosed IsClosedInto) x)
       → (HasCleanDisk (file_state x.office) → IsTrue (f.is_clean x.journal.disk) → IsOf (meaning_over over_files) (in_log f) h x)
       → IsTrue (f.is_clean it.last.journal.disk) → AreClean g it.closed.0.log it.closed.0.db → HoldBoth g f it.closed.0 it.last h is_marked
   ended is_marked h x it of clean_log clean =

@@ -16,11 +16,11 @@ use Rattle.office_desk.specs.Offices.{IsOffice}
 use Rattle.changing_commands.specs.Hosts.{HoldHistory, FoundingIsLeft, DeskIsLeft, ExchangesAreLeft}
 use Rattle.changing_commands.specs.Hosts.{MigrationIsLeft}
 use Rattle.command_host.specs.HostFiles.{IsFoundIn, IsClosedInto}
-use Rattle.command_host.specs.Openings.{IsOpenedOffice}
+use Rattle.command_host.specs.Openings.{IsClosed, IsOpenedOffice}
 use Rattle.changing_commands.proofs.MarkFacts.{closed_holds, crashed_holds}
 
 module _ {D : Type 0} (g : disk.Ghosts D) where
-  pub left : (office : Held (FileStore D g)) (mark : Option ℕ) (closed : IsClosedInto office mark) (h : History) → (HasCleanDisk (file_state office) → IsOffice h (file_state office))
+  pub left : (office : Held (FileStore D g)) (mark : Option ℕ) (closed : IsClosed IsClosedInto office mark) (h : History) → (HasCleanDisk (file_state office) → IsOffice h (file_state office))
       → HoldHistory g closed.0 h
   left office mark closed h is clean =
       let copied = closed.1 clean in

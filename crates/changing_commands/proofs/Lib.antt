@@ -1,5 +1,6 @@
 pub mod ServingFacts
 pub mod OpeningFacts
+pub mod MigratingFacts
 pub mod KeptFacts
 pub mod MarkFacts
 pub mod LeftFacts

@@ -15,12 +15,12 @@ use Rattle.office_policy.specs.TablesOf.{tables_of}
 use Rattle.office_desk.specs.Opened.{IsHandedBack}
 use Rattle.changing_commands.specs.Foundings.{history_of, IsFoundedIn, IsNotFounded, IsUnfounded, WasFounded}
 use Rattle.command_host.specs.declared.databases.Databases as databases
-use Rattle.command_host.specs.Openings.{IsEnded, IsFirstOf, IsOpenedOffice, IsServed}
+use Rattle.command_host.specs.Openings.{IsClosed, IsEnded, IsFirstOf, IsOpenedOffice, IsServed}
 
-module _ {S D : Type 0} (g : Ghosts S) (d : databases.Ghosts D (Held S)) (path : List ℕ) where
+module _ {S D C : Type 0} (g : Ghosts S) (d : databases.Ghosts D (Held S) C) (path : List ℕ) where
   module _ (Done : (old new : Held S) → Type 0) (Stops : CommandFault → (old new : Held S) → Type 0) (mark : Option ℕ) where
     pub was_served : (old new : Held S) → IsOpenedOffice g (d.opened path) old → (served closed result : Result (Unit {0}) CommandFault)
-        → OnOk served (Done old new) → IfErr served (λ why. Stops why old new) → OnOk closed (d.closed new mark) → IsEnded d new mark → IfErr closed (λ why. why ≡ fault.Close)
+        → OnOk served (Done old new) → IfErr served (λ why. Stops why old new) → OnOk closed (IsClosed d.closed new mark) → IsEnded d new mark → IfErr closed (λ why. why ≡ fault.Close)
         → IsFirstOf served closed result → IsServed g d path Done Stops mark result
     was_served old new office (Ok a) (Ok b) result done stops closed ended why is =
         subst (λ r. IsServed g d path Done Stops mark r) (sym is) (record { old = old; new = new; office = office; done = done; closed = closed })
@@ -32,7 +32,7 @@ module _ {S D : Type 0} (g : Ghosts S) (d : databases.Ghosts D (Held S)) (path :
         (inr (inl (record { old = old; new = new; office = office; done = stops; closed = ended })))
 
   pub founded_closed : (described : Result Founding FoundingWordsFault) (office : Held S) (r : Result (Unit {0}) CommandFault)
-      → IsFoundedIn g (d.opened path) described office → OnOk r (d.closed office None) → OnOk r (WasFounded g (d.opened path) d.closed described)
+      → IsFoundedIn g (d.opened path) described office → OnOk r (IsClosed d.closed office None) → OnOk r (WasFounded g (d.opened path) (IsClosed d.closed) described)
   founded_closed described office (Ok done) founded closed = record { office = office; founded = founded; closed = closed }
   founded_closed described office (Err why) founded closed = tt
 

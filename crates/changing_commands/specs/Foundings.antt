@@ -129,7 +129,7 @@ IsUndescribed described _ = ⊥
 -- Why nothing is founded: by the words where they describe no founding; and where they describe one,
 -- since no database was opened at the path, or by the store, whose database was then closed. Memory
 -- may have been refused in place of either.
-abbrev pub IsUnfoundedAs : {S D : Type 0} → Ghosts S → databases.Ghosts D (Held S)
+abbrev pub IsUnfoundedAs : {S D C : Type 0} → Ghosts S → databases.Ghosts D (Held S) C
     → (path : List ℕ) → Described → CommandFault → Type 0
 IsUnfoundedAs g d path described (fault.FoundingWords why) = Gives (Err why) described
 IsUnfoundedAs g d path described (fault.Founding why) =
@@ -139,7 +139,7 @@ IsUnfoundedAs g d path described _ = ⊥
 
 -- nothing is founded as words describe, for this; or an office was, in a database that was opened, and
 -- couldn't be closed
-abbrev pub IsUnfounded : {S D : Type 0} → Ghosts S → databases.Ghosts D (Held S)
+abbrev pub IsUnfounded : {S D C : Type 0} → Ghosts S → databases.Ghosts D (Held S) C
     → (path : List ℕ) → Described → CommandFault → Type 0
 IsUnfounded {S} g d path described why =
     IsUnfoundedAs g d path described why

@@ -21,7 +21,7 @@ use Rattle.changing_commands.specs.declared.rebuild.Built.{Built}
 use Rattle.changing_commands.specs.Foundings.{WasFounded, history_of}
 use Rattle.changing_commands.specs.Migrations.{WasMigrated}
 use Rattle.changing_commands.specs.Rebuildings.{WasRebuilt}
-use Rattle.command_host.specs.Openings.{WasServed}
+use Rattle.command_host.specs.Openings.{IsClosed, WasServed}
 use Rattle.changing_commands.specs.Serving.{HasServedUpTo}
 use Rattle.command_host.specs.HostFiles.{IsClosedInto, IsFoundIn}
 
@@ -34,7 +34,7 @@ module _ {D : Type 0} (g : disk.Ghosts D) where
   -- what was founded and closed is left in its files
   abbrev pub FoundingIsLeft : Type 0
   FoundingIsLeft = (image : Image) (founding : Founding)
-      (it : WasFounded (over_files {g = g}) (IsFoundIn image) IsClosedInto (Ok founding))
+      (it : WasFounded (over_files {g = g}) (IsFoundIn image) (IsClosed IsClosedInto) (Ok founding))
       → HoldHistory g it.closed.0 (history_of founding)
 
   -- A desk over files that hold the office of a history leaves files that hold the office of that
@@ -43,7 +43,7 @@ module _ {D : Type 0} (g : disk.Ghosts D) where
   DeskIsLeft = (h : History) (image : Image) (mark : Option ℕ) → IsLawfulHistory h
       → HoldsOffice image (tables_of h)
       → (it : WasServed (over_files {g = g}) (IsFoundIn image)
-      (HasHandled (meaning_over over_files)) mark IsClosedInto)
+      (HasHandled (meaning_over over_files)) mark (IsClosed IsClosedInto))
       → HoldHistory g it.closed.0 (history_after_lines h it.done.outcomes)
 
   -- Exchanges over files that hold the office of a history leave files that hold the office of that
@@ -52,7 +52,7 @@ module _ {D : Type 0} (g : disk.Ghosts D) where
   ExchangesAreLeft = (h : History) (image : Image) (most : _) (mark : Option ℕ)
       → IsLawfulHistory h → HoldsOffice image (tables_of h)
       → (it : WasServed (over_files {g = g}) (IsFoundIn image)
-      (λ old new. HasServedUpTo (meaning_over over_files) old new most) mark IsClosedInto)
+      (λ old new. HasServedUpTo (meaning_over over_files) old new most) mark (IsClosed IsClosedInto))
       → HoldHistory g it.closed.0
       (history_after_all h (requests_in it.done.1.came) (answers_in it.done.1.came))
 
@@ -61,7 +61,7 @@ module _ {D : Type 0} (g : disk.Ghosts D) where
   abbrev pub MigrationIsLeft : Type 0
   MigrationIsLeft = (h : History) (image : Image) (mark : Option ℕ)
       → HoldsOldOffice image (tables_of h)
-      → (it : WasMigrated (over_files {g = g}) (IsFoundIn image) mark IsClosedInto)
+      → (it : WasMigrated (over_files {g = g}) (IsFoundIn image) mark (IsClosed IsClosedInto))
       → HoldHistory g it.closed.0 h
 
   -- what was built anew of a journal, and closed, is left in its files: the office of the history that
@@ -69,5 +69,6 @@ module _ {D : Type 0} (g : disk.Ghosts D) where
   abbrev pub RebuildingIsLeft : {F : Type 0} → (Opens : Result F Error → Type 0)
       → (bytes_of : F → Option (List ℕ)) → Type 0
   RebuildingIsLeft Opens bytes_of = (image : Image) (built : Built)
-      (it : WasRebuilt (over_files {g = g}) Opens bytes_of (IsFoundIn image) IsClosedInto built)
+      (it : WasRebuilt (over_files {g = g}) Opens bytes_of (IsFoundIn image)
+      (IsClosed IsClosedInto) built)
       → HoldHistory g it.closed.0 it.rebuilt.rebuilt.history

@@ -25,7 +25,7 @@ use Rattle.command_host.specs.declared.no_file.NoFile.{NoFile}
 use Rattle.changing_commands.specs.Foundings.{founding_event, history_of, Described}
 use Rattle.changing_commands.specs.Foundings.{IsFoundedIn, IsUndescribed, IsUnfoundedAs}
 use Rattle.command_host.specs.NoFiles.{file_fault}
-use Rattle.command_host.specs.Openings.{IsEnded, IsOfOpening, IsOpenedOffice}
+use Rattle.command_host.specs.Openings.{IsClosed, IsEnded, IsOfOpening, IsOpenedOffice}
 use Rattle.command_host.specs.declared.databases.Databases as databases
 use Rattle.no_memory.specs.Witness.{witness}
 
@@ -120,7 +120,7 @@ module _ {S L : Type 0} (g : Ghosts S) (f : DiskGhosts L) (Created : Result L No
     pub is : described ≡ Ok founding
     pub founded : WasFoundedBehind Opened Closed founding
 
-  module _ {D : Type 0} (Removed : Result ⊤ Error → Type 0) (d : databases.Ghosts D (Held S))
+  module _ {D C : Type 0} (Removed : Result ⊤ Error → Type 0) (d : databases.Ghosts D (Held S) C)
       (path : List ℕ) where
     -- a journal was begun by a founding, and then nothing was founded for this, and the file was
     -- removed; or its office was founded, and couldn't be closed
@@ -192,7 +192,7 @@ module _ {S L : Type 0} (g : Ghosts S) (f : DiskGhosts L)
       pub closed : Closed new None
 
   -- of databases of which this is known, and the one at a path that has this mark
-  module _ {D : Type 0} (d : databases.Ghosts D (Held S)) (path : List ℕ) (mark : ℕ) where
+  module _ {D C : Type 0} (d : databases.Ghosts D (Held S) C) (path : List ℕ) (mark : ℕ) where
     -- no office with its journal is there: none, or one without, which was closed, whatever came
     -- of that
     abbrev pub IsUnkept : CommandFault → Type 0
@@ -205,7 +205,8 @@ module _ {S L : Type 0} (g : Ghosts S) (f : DiskGhosts L)
         → (Done : (old new : Journaled (Held S) (SealedLog L f)) → Type 0)
         → (Stops : CommandFault → (old new : Journaled (Held S) (SealedLog L f)) → Type 0)
         → Result (Unit {0}) CommandFault → Type 0
-    IsServedWith is_marked Done Stops (Ok done) = WasKept (d.opened path) mark is_marked Done d.closed
+    IsServedWith is_marked Done Stops (Ok done) =
+        WasKept (d.opened path) mark is_marked Done (IsClosed d.closed)
     IsServedWith is_marked Done Stops (Err why) =
         IsUnkept why ⊎ WasKept (d.opened path) mark is_marked (Stops why) (IsEnded d)
         ⊎ ((why ≡ fault.Close) × WasKept (d.opened path) mark is_marked Done (IsEnded d))

@@ -26,6 +26,7 @@ use Rattle.office_desk.specs.Meant.{meaning_over}
 use Rattle.command_host.specs.declared.no_file.NoFile.{NoFile}
 use Rattle.changing_commands.specs.Hosts.{HoldHistory}
 use Rattle.command_host.specs.HostFiles.{IsClosedInto, IsFoundIn}
+use Rattle.command_host.specs.Openings.{IsClosed}
 use Rattle.changing_commands.specs.declared.founding.Founding.{Founding}
 use Rattle.changing_commands.specs.Foundings.{history_of}
 use Rattle.changing_commands.specs.Journals.{journaled_over, mark_beside, WasFoundedBehind, WasKept}
@@ -64,7 +65,7 @@ module _ {D L : Type 0} (g : disk.Ghosts D) (f : disk.Ghosts L) where
     KeptDeskIsLeft = (h : History) (image : Image) (mark : ℕ) (is_marked : Bool)
         → IsLawfulHistory h → HoldsOffice image (tables_of h)
         → (it : WasKept (over_files {g = g}) f Found (IsFoundIn image) mark is_marked
-        (HasHandled (journaled_over over_files f)) IsClosedInto)
+        (HasHandled (journaled_over over_files f)) (IsClosed IsClosedInto))
         → IsTrue (f.is_clean it.ended.last.journal.disk)
         → TellsOf h (bodies_of f it.office.journal.log)
         → AreClean g it.ended.closed.0.log it.ended.closed.0.db
@@ -77,7 +78,7 @@ module _ {D L : Type 0} (g : disk.Ghosts D) (f : disk.Ghosts L) where
     KeptExchangesAreLeft = (h : History) (image : Image) (most mark : ℕ) (is_marked : Bool)
         → IsLawfulHistory h → HoldsOffice image (tables_of h)
         → (it : WasKept (over_files {g = g}) f Found (IsFoundIn image) mark is_marked
-        (λ old new. HasServedUpTo (journaled_over over_files f) old new most) IsClosedInto)
+        (λ old new. HasServedUpTo (journaled_over over_files f) old new most) (IsClosed IsClosedInto))
         → IsTrue (f.is_clean it.ended.last.journal.disk)
         → TellsOf h (bodies_of f it.office.journal.log)
         → AreClean g it.ended.closed.0.log it.ended.closed.0.db
@@ -90,7 +91,7 @@ module _ {D L : Type 0} (g : disk.Ghosts D) (f : disk.Ghosts L) where
     MarkingIsLeft = (h : History) (image : Image) (mark : ℕ)
         → IsLawfulHistory h → HoldsOffice image (tables_of h)
         → (it : WasKept (over_files {g = g}) f Found (IsFoundIn image) mark true
-        (λ old new. new ≡ old) IsClosedInto)
+        (λ old new. new ≡ old) (IsClosed IsClosedInto))
         → IsTrue (f.is_clean it.ended.last.journal.disk)
         → TellsOf h (bodies_of f it.office.journal.log)
         → AreClean g it.ended.closed.0.log it.ended.closed.0.db
@@ -99,7 +100,8 @@ module _ {D L : Type 0} (g : disk.Ghosts D) (f : disk.Ghosts L) where
   -- what was founded with a journal, and closed, is left in its files
   abbrev pub KeptFoundingIsLeft : (Created : Result L NoFile → Type 0) → Type 0
   KeptFoundingIsLeft Created = (image : Image) (founding : Founding)
-      (it : WasFoundedBehind (over_files {g = g}) f Created (IsFoundIn image) IsClosedInto founding)
+      (it : WasFoundedBehind (over_files {g = g}) f Created (IsFoundIn image)
+      (IsClosed IsClosedInto) founding)
       → IsTrue (f.is_clean it.ended.last.journal.disk)
       → AreClean g it.ended.closed.0.log it.ended.closed.0.db
       → HoldBoth it.ended.closed.0 it.ended.last (history_of founding) true

@@ -15,22 +15,20 @@ IsOfDesk Stands (fault.Desk why) = Stands why
 IsOfDesk Stands _ = ⊥
 
 -- lines were handled, and where the bytes that were to come are known, all of their lines were
--- answered
+-- answered, which told this want of memory
 abbrev pub HasAnswered : {O X : Type 0} → (O → Option (List ℕ)) → Meaning X
-    → (came : Option (List ℕ)) (output wrote : Counted O) (old new : X) → Type 0
-HasAnswered contents m came output wrote old new =
+    → (came : Option (List ℕ)) (output wrote : Counted O) (want : Option Want) (old new : X) → Type 0
+HasAnswered contents m came output wrote want old new =
     HasHandled m old new
-    × ((want : Option Want)
     × IfSome came (λ bytes. AreAnswered m old new (contents output.inner) (contents wrote.inner)
-    (lines_of bytes) want))
+    (lines_of bytes) want)
 
 -- lines were handled, and the desk stopped for this, after which stands what it says, with these
--- bytes left of those that were to come
+-- bytes left of those that were to come; and this want of memory was told
 abbrev pub HasStopped : {O X : Type 0} → (O → Option (List ℕ)) → Meaning X
-    → (came left : Option (List ℕ)) (output wrote : Counted O) → CommandFault → (old new : X)
-    → Type 0
-HasStopped contents m came left output wrote why old new =
+    → (came left : Option (List ℕ)) (output wrote : Counted O) (want : Option Want) → CommandFault
+    → (old new : X) → Type 0
+HasStopped contents m came left output wrote want why old new =
     HasHandled m old new
-    × ((want : Option Want)
     × IsOfDesk (StandsAfter m old new came left (contents output.inner) (contents wrote.inner) want)
-    why)
+    why

@@ -5,7 +5,8 @@ use Rattle.sqlite.specs.State.{HasCleanDisk}
 use Rattle.sqlite.specs.Store.{Ghosts}
 use Rattle.office_founding.specs.Migration.{FailsToMigrate, IsMigration, WasOld}
 use Rattle.office_founding.specs.declared.fault.MigrationFault.{MigrationFault}
-use Rattle.command_host.specs.Openings.{IsEnded, IsNotThere, IsUnlimited, IsWithJournal}
+use Rattle.command_host.specs.Openings.{IsClosed, IsEnded, IsNotThere, IsUnlimited}
+use Rattle.command_host.specs.Openings.{IsWithJournal}
 use Rattle.command_host.specs.declared.databases.Databases as databases
 use Rattle.command_host.specs.declared.fault.CommandFault.{CommandFault}
 use Rattle.command_host.specs.declared.fault.CommandFault.TheVariants as fault
@@ -23,7 +24,7 @@ pub record WasMigrated {S : Type 0} (g : Ghosts S) (Opened : Held S → Type 0) 
 
 -- No database is at the path; or one was opened, wasn't migrated for this, and was closed; or one was
 -- migrated and couldn't be closed.
-abbrev pub IsUnmigrated : {S D : Type 0} → Ghosts S → databases.Ghosts D (Held S)
+abbrev pub IsUnmigrated : {S D C : Type 0} → Ghosts S → databases.Ghosts D (Held S) C
     → (path : List ℕ) → (mark : Option ℕ) → CommandFault → Type 0
 IsUnmigrated g d path mark (fault.Store why) = IsNotThere d path why
 IsUnmigrated {S} g d path mark (fault.Migration why) =
@@ -37,12 +38,12 @@ abbrev pub mark_without : Bool → Option ℕ
 mark_without true = Some 0
 mark_without false = None
 
-module _ {S D : Type 0} (g : Ghosts S) (d : databases.Ghosts D (Held S)) (path : List ℕ)
+module _ {S D C : Type 0} (g : Ghosts S) (d : databases.Ghosts D (Held S) C) (path : List ℕ)
     (without_journal : Bool) where
   -- the office at the path was migrated, and has no journal, or goes on without
   pub record HasMigrated : Type 0 where
     pub none : without_journal ≡ false → d.marked path (Ok 0)
-    pub migrated : WasMigrated g (d.opened path) (mark_without without_journal) d.closed
+    pub migrated : WasMigrated g (d.opened path) (mark_without without_journal) (IsClosed d.closed)
 
   -- the office at the path wasn't migrated; or it has a journal, and doesn't go on without
   abbrev pub FailsToMigrateAt : CommandFault → Type 0

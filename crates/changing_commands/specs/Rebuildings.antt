@@ -19,7 +19,7 @@ use Rattle.changing_commands.specs.Journals.{mark_of_lines}
 use Rattle.changing_commands.specs.declared.rebuild.Built.{Built}
 use Rattle.command_host.specs.ReadFaults.{IsToldOf}
 use Rattle.command_host.specs.JournalTexts.{IsNoText, IsTextAt}
-use Rattle.command_host.specs.Openings.{IsEnded, IsUnlimited, IsUnopened}
+use Rattle.command_host.specs.Openings.{IsClosed, IsEnded, IsUnlimited, IsUnopened}
 use Rattle.command_host.specs.Said.{seal_line}
 use Rattle.streams.specs.declared.counted.Counted.{Counted}
 
@@ -64,7 +64,7 @@ module _ {S F : Type 0} (g : Ghosts S) (Opens : Result F IoError → Type 0)
     pub closed : Closed left None
 
 -- of databases of which this is known, and of the one at a path, and of journals as they are opened and read
-module _ {S D F : Type 0} (g : Ghosts S) (d : databases.Ghosts D (Held S)) (path : List ℕ)
+module _ {S D C F : Type 0} (g : Ghosts S) (d : databases.Ghosts D (Held S) C) (path : List ℕ)
     (Opens : Result F IoError → Type 0) (Gives : F → F → Result ℕ IoError → List ℕ → Type 0)
     (bytes_of : F → Option (List ℕ)) where
   -- No text is there, or no database; or the journal isn't built on, which is told, and the database was closed,
@@ -83,7 +83,7 @@ module _ {S D F : Type 0} (g : Ghosts S) (d : databases.Ghosts D (Held S)) (path
     -- an office was built anew and closed, and its line was printed
     pub record HasRebuilt : Type 0 where
       pub built : Built
-      pub office : WasRebuilt g Opens bytes_of (d.opened path) d.closed built
+      pub office : WasRebuilt g Opens bytes_of (d.opened path) (IsClosed d.closed) built
       pub printed : IsWhole contents output wrote (seal_line (codes "rebuilt") built.events built.seal)
 
     -- the line of an office that was built anew wasn't printed, for want of memory, or was cut
@@ -96,5 +96,5 @@ module _ {S D F : Type 0} (g : Ghosts S) (d : databases.Ghosts D (Held S)) (path
     abbrev pub FailsToRebuild : CommandFault → Type 0
     FailsToRebuild why =
         (IsUnrebuilt why × (wrote ≡ output))
-        ⊎ ((built : Built) × WasRebuilt g Opens bytes_of (d.opened path) d.closed built
+        ⊎ ((built : Built) × WasRebuilt g Opens bytes_of (d.opened path) (IsClosed d.closed) built
         × IsUnsaid built why)

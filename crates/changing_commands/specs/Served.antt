@@ -14,13 +14,14 @@ use Rattle.command_host.specs.declared.fault.CommandFault.{CommandFault}
 use Rattle.changing_commands.specs.Journals.{is_marked, journaled_over, IsServedWith}
 use Rattle.changing_commands.specs.Lines.{HasAnswered, HasStopped}
 use Rattle.changing_commands.specs.Serving.{HasBegun, HasServed}
+use Rattle.no_memory.specs.declared.witness.NoMemory.{«NoMemory» as Want}
 
 -- a command failed so before anything was opened
 abbrev pub FailsFirst : (CommandFault → Type 0) → Result (Unit {0}) CommandFault → Type 0
 FailsFirst Fails (Ok done) = ⊥
 FailsFirst Fails (Err why) = Fails why
 
-module _ {S D : Type 0} (d : databases.Ghosts D (Held S)) (path : List ℕ) where
+module _ {S D C : Type 0} (d : databases.Ghosts D (Held S) C) (path : List ℕ) where
   -- the database at a path has no mark, and this came of the office there; or it has one, and
   -- wants its journal
   abbrev pub IsOfUnmarked : (Alone : Result (Unit {0}) CommandFault → Type 0)
@@ -52,14 +53,14 @@ module _ {S D F L N : Type 0} (k : Known S D F L N) where
 
 module _ {S D F L N O : Type 0} (k : Known S D F L N) (contents : O → Option (List ℕ))
     (output wrote : Counted O) where
-  -- `desk`, over input that was to come and what of it is left
-  module _ (came left : Option (List ℕ)) (path : List ℕ) where
+  -- `desk`, over input that was to come and what of it is left, which told this want of memory
+  module _ (came left : Option (List ℕ)) (want : Option Want) (path : List ℕ) where
     -- without a journal; the database is closed with a mark, or as it was marked
     abbrev pub IsDeskAlone : (mark : Option ℕ) → Result (Unit {0}) CommandFault → Type 0
     IsDeskAlone mark result =
         IsServed k.store k.databases path
-        (HasAnswered contents (meaning_over k.store) came output wrote)
-        (HasStopped contents (meaning_over k.store) came left output wrote) mark result
+        (HasAnswered contents (meaning_over k.store) came output wrote want)
+        (HasStopped contents (meaning_over k.store) came left output wrote want) mark result
 
     abbrev pub IsDeskUnnamed : Result (Unit {0}) CommandFault → Type 0
     IsDeskUnnamed result = IsOfUnmarked k.databases path (IsDeskAlone None) result
@@ -68,8 +69,8 @@ module _ {S D F L N O : Type 0} (k : Known S D F L N) (contents : O → Option (
     IsDeskKept file result =
         IsOfMarked k.databases path
         (λ mark. IsServedWith k.store k.log (k.finds file) k.databases path mark (is_marked mark)
-        (HasAnswered contents (journaled_over k.store k.log) came output wrote)
-        (HasStopped contents (journaled_over k.store k.log) came left output wrote)) result
+        (HasAnswered contents (journaled_over k.store k.log) came output wrote want)
+        (HasStopped contents (journaled_over k.store k.log) came left output wrote want)) result
 
     abbrev pub IsDesk : (journal : JournalWords) → Result (Unit {0}) CommandFault → Type 0
     IsDesk journal result =

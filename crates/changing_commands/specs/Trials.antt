@@ -9,6 +9,7 @@ use Rattle.changing_commands.specs.Lines.{HasAnswered, HasStopped}
 use Rattle.command_host.specs.declared.fault.CommandFault.{CommandFault}
 use Rattle.command_host.specs.declared.fault.CommandFault.TheVariants as fault
 use Rattle.no_memory.specs.Witness.{witness}
+use Rattle.no_memory.specs.declared.witness.NoMemory.{«NoMemory» as Want}
 
 -- the founding of a trial desk: root of the team office, who shows the token abc, and CAP_SYS_ADMIN
 unfoldable pub trial_founding : Described
@@ -31,10 +32,11 @@ abbrev pub HasTried : (Done : (old new : Held MemoryStore) → Type 0)
 HasTried Done Stops (Ok done) = WasTried Done
 HasTried Done Stops (Err why) = (why ≡ fault.NoMemory witness) ⊎ WasTried (Stops why)
 
--- of the lines that were to come, of those that are left, and of an output
+-- of the lines that were to come, of those that are left, of an output, and of the want of memory that
+-- it tells
 module _ {O : Type 0} (contents : O → Option (List ℕ)) (came left : Option (List ℕ))
-    (output wrote : Counted O) where
+    (output wrote : Counted O) (want : Option Want) where
   abbrev pub IsTrial : Result (Unit {0}) CommandFault → Type 0
   IsTrial result =
-      HasTried (HasAnswered contents (meaning_over over_memory) came output wrote)
-      (HasStopped contents (meaning_over over_memory) came left output wrote) result
+      HasTried (HasAnswered contents (meaning_over over_memory) came output wrote want)
+      (HasStopped contents (meaning_over over_memory) came left output wrote want) result

@@ -5,6 +5,7 @@ ghost use Rattle.sqlite.specs.Held.{state};
 ghost use Rattle.sqlite.specs.State.{HasCleanDisk};
 ghost use Rattle.office_store.specs.Schema.{no_schema};
 ghost use Rattle.office_store.specs.Shown.{IsIdle};
+ghost use Rattle.command_host.specs.Openings.{IsClosed};
 ghost use Rattle.command_host.specs.Outside.{known};
 ghost use Rattle.changing_commands.specs.Founded.{FailsToInit, HasFounded};
 ghost use Rattle.changing_commands.specs.Foundings.{founding_of_words, IsFoundedBy, IsFoundedIn};
@@ -114,7 +115,7 @@ fn found_and_close<S: Alter + Drop, D: Databases<Database = Connection<S>>>(
     path: &str,
     founding: &Founding,
 ) -> Result<(), CommandFault>
-    ensures founded { OnOk result (WasFounded S.Store (D.opened path.now) D.closed
+    ensures founded { OnOk result (WasFounded S.Store (D.opened path.now) (IsClosed D.closed)
         (Ok founding.now)) }
     ensures failed { IfErr result (IsUnfounded S.Store D.Databases path.now (Ok founding.now)) }
 {
@@ -136,7 +137,8 @@ fn found_behind<S: Alter + Drop, D: Databases<Database = Connection<S>>, J: Jour
 ) -> Result<(), CommandFault>
     requires { line.now ≡ line_of founding.now }
     ensures founded { OnOk result (WasFoundedBehind S.Store J.File.Disk
-        (J.creates journals.now journal.now) (D.opened path.now) D.closed founding.now) }
+        (J.creates journals.now journal.now) (D.opened path.now) (IsClosed D.closed)
+        founding.now) }
     ensures failed { IfErr result (IsUnfoundedBehind S.Store J.File.Disk
         (J.creates journals.now journal.now) (J.removes journals.now journal.now)
         D.Databases path.now founding.now) }

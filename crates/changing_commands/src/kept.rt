@@ -1,7 +1,7 @@
 //! An office that is kept with a journal.
 
 ghost use Rattle.std.specs.Prelude.{◌≡◌, IfErr, IfOk, OnOk};
-ghost use Rattle.command_host.specs.Openings.{IsEnded};
+ghost use Rattle.command_host.specs.Openings.{IsClosed, IsEnded};
 ghost use Rattle.changing_commands.specs.Journals.{IsClosedKept, IsKeptOffice, IsOfJournal};
 ghost use Rattle.changing_commands.specs.Journals.{IsOpenedWith, IsUnkept, mark_beside};
 ghost use Rattle.changing_commands.specs.Journals.{mark_of_lines};
@@ -104,7 +104,8 @@ pub(crate) fn close_kept<S: Alter, J: Disk + Drop, D: Databases<Database = Conne
     kept: Kept<S, J>,
     is_marked: bool,
 ) -> Result<(), CommandFault>
-    ensures closed { OnOk result (IsClosedKept S.Store J.Disk is_marked D.closed kept) }
+    ensures closed { OnOk result
+        (IsClosedKept S.Store J.Disk is_marked (IsClosed D.closed) kept) }
     ensures ended { IsClosedKept S.Store J.Disk is_marked (IsEnded D.Databases) kept }
     ensures fault { IfErr result (λ fault. fault ≡ CommandFault.Close) }
 {

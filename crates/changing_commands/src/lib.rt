@@ -17,6 +17,7 @@ mod trial;
 
 pub use founding::{Founding, founding_of};
 pub use init::found_at;
+pub use lines::DeskEnded;
 pub use marking::mark_stored;
 pub use migrate::migrate_at;
 pub use rebuild::run_rebuild;

@@ -1,16 +1,38 @@
 //! The desk of an office over the streams of the program.
 
-ghost use Rattle.std.specs.Prelude.{IfErr, OnOk};
+ghost use Rattle.std.specs.Prelude.{◌≡◌, Err, IfErr, None, OnOk};
 ghost use Rattle.desk.specs.Stands.{HasHandled};
 ghost use Rattle.changing_commands.specs.Lines.{HasAnswered, HasStopped};
 ghost use Rattle.streams.specs.CallsLeft.{HasCallsLeft, HasFaultsLeft};
 
 use command_host::CommandFault;
 use desk::desk;
+use no_memory::NoMemory;
 use office_policy::Handler;
 use std::alloc::Global;
 use std::io::{Read, Write};
 use streams::Counted;
+
+/// How the desk of a command ended.
+#[derive(Debug, Drop)]
+pub struct DeskEnded {
+    /// All was done, or why not.
+    pub ended: Result<(), CommandFault>,
+    /// The witness, where the answer to a line says that there was no memory.
+    pub witness: Option<NoMemory>,
+}
+
+impl DeskEnded {
+    // No line was read, for this.
+    pub(crate) fn unbegun(why: CommandFault) -> DeskEnded
+        ensures { result ≡ record { ended = Err why; witness = None } }
+    {
+        DeskEnded {
+            ended: Err(why),
+            witness: None,
+        }
+    }
+}
 
 /// Answers each line of a reader.
 pub(crate) fn answer_lines<H: Handler, R: Read, W: Write>(
@@ -18,18 +40,27 @@ pub(crate) fn answer_lines<H: Handler, R: Read, W: Write>(
     alloc: Global,
     input: &mut Counted<R>,
     output: &mut Counted<W>,
-) -> Result<(), CommandFault>
+) -> DeskEnded
     requires reads { HasCallsLeft input.old }
     requires writes { HasFaultsLeft output.old }
     ensures handled { HasHandled H.meaning office.old office.new }
-    ensures answered { OnOk result (HasAnswered W.contents H.meaning
-        (R.remaining input.old.inner) output.old output.new office.old office.new) }
-    ensures stopped { IfErr result (λ why. HasStopped W.contents H.meaning
-        (R.remaining input.old.inner) (R.remaining input.new.inner) output.old output.new why
+    ensures answered { OnOk result.ended (HasAnswered W.contents H.meaning
+        (R.remaining input.old.inner) output.old output.new result.witness
         office.old office.new) }
+    ensures stopped { IfErr result.ended (λ why. HasStopped W.contents H.meaning
+        (R.remaining input.old.inner) (R.remaining input.new.inner) output.old output.new
+        result.witness why office.old office.new) }
 {
-    match desk(office, alloc, input, output).answered {
-        Ok(()) => Ok(()),
-        Err(fault) => Err(CommandFault::Desk(fault)),
+    let ended = desk(office, alloc, input, output);
+    let witness = ended.witness;
+    match ended.answered {
+        Ok(()) => DeskEnded {
+            ended: Ok(()),
+            witness,
+        },
+        Err(fault) => DeskEnded {
+            ended: Err(CommandFault::Desk(fault)),
+            witness,
+        },
     }
 }

@@ -1,6 +1,7 @@
 //! `rebuild`: a new office in a file, of what a journal tells.
 
 ghost use Rattle.std.specs.Prelude.{◌≡◌, IfErr, IfOk};
+ghost use Rattle.command_host.specs.Openings.{IsClosed};
 ghost use Rattle.changing_commands.specs.Rebuildings.{FailsToRebuild, HasRebuilt, IsUnrebuilt};
 ghost use Rattle.changing_commands.specs.Rebuildings.{WasRebuilt, told_of};
 
@@ -44,7 +45,7 @@ fn rebuild_at<F: PassFiles, S: Alter + Drop, D: Databases<Database = Connection<
     journal: &str,
 ) -> Result<Built, CommandFault>
     ensures rebuilt { IfOk result (WasRebuilt S.Store (F.opens files.now journal.now)
-        F.File.remaining (D.opened database.now) D.closed) }
+        F.File.remaining (D.opened database.now) (IsClosed D.closed)) }
     ensures failed { IfErr result (IsUnrebuilt S.Store D.Databases database.now
         (F.opens files.now journal.now) F.gives F.File.remaining) }
 {

@@ -5,10 +5,8 @@ ghost use Rattle.changing_commands.specs.Served.{IsDesk, IsDeskAlone, IsDeskKept
 ghost use Rattle.streams.specs.CallsLeft.{HasCallsLeft, HasFaultsLeft};
 
 use crate::kept::{close_kept, kept_office_at};
-use crate::lines::answer_lines;
-use command_host::{
-    CommandFault, Host, Outside, close, first_fault, look_for_mark, mark_at, office_at,
-};
+use crate::lines::{DeskEnded, answer_lines};
+use command_host::{Host, Outside, close, first_fault, look_for_mark, mark_at, office_at};
 use command_line::JournalWords;
 use std::alloc::Global;
 use std::io::{Read, Write};
@@ -22,16 +20,23 @@ fn serve_alone<H: Host, R: Read, W: Write>(
     mark: Option<u32>,
     input: &mut Counted<R>,
     output: &mut Counted<W>,
-) -> Result<(), CommandFault>
+) -> DeskEnded
     requires reads { HasCallsLeft input.old }
     requires writes { HasFaultsLeft output.old }
     ensures { IsDeskAlone (known host.now) W.contents output.old output.new
-        (R.remaining input.old.inner) (R.remaining input.new.inner) path.now mark result }
+        (R.remaining input.old.inner) (R.remaining input.new.inner) result.witness path.now mark
+        result.ended }
 {
-    let mut office = office_at(host.databases, path)?;
+    let mut office = match office_at(host.databases, path) {
+        Ok(office) => office,
+        Err(fault) => return DeskEnded::unbegun(fault),
+    };
     let answered = answer_lines(&mut office, alloc, input, output);
     let closed = close(host.databases, office, mark);
-    first_fault(answered, closed)
+    DeskEnded {
+        ended: first_fault(answered.ended, closed),
+        witness: answered.witness,
+    }
 }
 
 // The same where the office has no journal.
@@ -41,14 +46,17 @@ fn serve_unnamed<H: Host, R: Read, W: Write>(
     path: &str,
     input: &mut Counted<R>,
     output: &mut Counted<W>,
-) -> Result<(), CommandFault>
+) -> DeskEnded
     requires reads { HasCallsLeft input.old }
     requires writes { HasFaultsLeft output.old }
     ensures { IsDeskUnnamed (known host.now) W.contents output.old output.new
-        (R.remaining input.old.inner) (R.remaining input.new.inner) path.now result }
+        (R.remaining input.old.inner) (R.remaining input.new.inner) result.witness path.now
+        result.ended }
 {
-    look_for_mark(host.databases, path)?;
-    serve_alone(host, alloc, path, None, input, output)
+    match look_for_mark(host.databases, path) {
+        Ok(()) => serve_alone(host, alloc, path, None, input, output),
+        Err(fault) => DeskEnded::unbegun(fault),
+    }
 }
 
 // The same with the journal at this path.
@@ -59,17 +67,28 @@ fn serve_kept<H: Host, R: Read, W: Write>(
     journal: &str,
     input: &mut Counted<R>,
     output: &mut Counted<W>,
-) -> Result<(), CommandFault>
+) -> DeskEnded
     requires reads { HasCallsLeft input.old }
     requires writes { HasFaultsLeft output.old }
     ensures { IsDeskKept (known host.now) W.contents output.old output.new
-        (R.remaining input.old.inner) (R.remaining input.new.inner) path.now journal.now result }
+        (R.remaining input.old.inner) (R.remaining input.new.inner) result.witness path.now
+        journal.now result.ended }
 {
-    let mark = mark_at(host.databases, path)?;
-    let mut kept = kept_office_at(host.databases, host.journals, alloc, path, journal, mark)?;
+    let mark = match mark_at(host.databases, path) {
+        Ok(mark) => mark,
+        Err(fault) => return DeskEnded::unbegun(fault),
+    };
+    let (databases, journals) = (host.databases, host.journals);
+    let mut kept = match kept_office_at(databases, journals, alloc, path, journal, mark) {
+        Ok(kept) => kept,
+        Err(fault) => return DeskEnded::unbegun(fault),
+    };
     let answered = answer_lines(&mut kept, alloc, input, output);
     let closed = close_kept(host.databases, alloc, kept, mark != 0);
-    first_fault(answered, closed)
+    DeskEnded {
+        ended: first_fault(answered.ended, closed),
+        witness: answered.witness,
+    }
 }
 
 /// Answers the lines of a reader at the desk of the office at a path, with its journal at another
@@ -83,12 +102,12 @@ pub fn serve_stored<H: Host, R: Read, W: Write>(
     journal: JournalWords<'_>,
     input: &mut Counted<R>,
     output: &mut Counted<W>,
-) -> Result<(), CommandFault>
+) -> DeskEnded
     requires reads { HasCallsLeft input.old }
     requires writes { HasFaultsLeft output.old }
     ensures { IsDesk (known host.now) W.contents output.old output.new
-        (R.remaining input.old.inner) (R.remaining input.new.inner) path.now
-        journal.entry result }
+        (R.remaining input.old.inner) (R.remaining input.new.inner) result.witness path.now
+        journal.entry result.ended }
 {
     match journal {
         JournalWords::Named(file) => serve_kept(host, alloc, path, file, input, output),

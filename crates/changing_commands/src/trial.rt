@@ -9,7 +9,7 @@ ghost use Rattle.no_memory.specs.Witness.{witness};
 
 use crate::founding::{Founding, founding_of};
 use crate::init::found_in;
-use crate::lines::answer_lines;
+use crate::lines::{DeskEnded, answer_lines};
 use command_host::{CommandFault, FoundingWordsFault};
 use memory_database::{MemoryStore, open_in_memory, want_of_memory};
 use office_desk::Office;
@@ -55,12 +55,15 @@ pub fn serve_trial<R: Read, W: Write>(
     alloc: Global,
     input: &mut Counted<R>,
     output: &mut Counted<W>,
-) -> Result<(), CommandFault>
+) -> DeskEnded
     requires reads { HasCallsLeft input.old }
     requires writes { HasFaultsLeft output.old }
     ensures { IsTrial W.contents (R.remaining input.old.inner) (R.remaining input.new.inner)
-        output.old output.new result }
+        output.old output.new result.witness result.ended }
 {
-    let mut office = trial_office(alloc)?;
+    let mut office = match trial_office(alloc) {
+        Ok(office) => office,
+        Err(fault) => return DeskEnded::unbegun(fault),
+    };
     answer_lines(&mut office, alloc, input, output)
 }

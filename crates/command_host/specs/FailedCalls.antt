@@ -13,7 +13,7 @@ pub record CallFailed {F : Type 0} (Gives : F → F → Result ℕ Error → Lis
   pub call : Gives old new (Err error) bytes
   pub failed : error_kind error ≢ kind.Interrupted
 
--- that is noted of a call, and no other call changes a note
+-- a call that failed, and wasn't interrupted, is noted; no other call changes a note
 abbrev pub IsNoted : (old new : Bool) → Result ℕ Error → Type 0
 IsNoted old new (Ok count) = new ≡ old
 IsNoted old new (Err e) =

@@ -14,14 +14,15 @@ use Rattle.command_host.specs.declared.databases.Databases as databases
 use Rattle.command_host.specs.declared.no_file.NoFile.{NoFile}
 use Rattle.command_host.specs.declared.place.Stamp.{Stamp}
 
--- Of a store, and of the databases over it; of files as they are opened, of what a call of read gives
--- of one, and of their bytes; of the file of a journal as a disk, and of such files as they are made,
--- opened and removed; of a network as its clock is read, as it binds, and as it tells where it
--- listens; of files as it is asked where a database lies and how a file is; and of journals as they
--- are compared with databases.
+-- Of a store, of the databases over it, and of which type is what a closed one stands in; of files as
+-- they are opened, of what a call of read gives of one, and of their bytes; of the file of a journal as
+-- a disk, and of such files as they are made, opened and removed; of a network as its clock is read, as
+-- it binds, and as it tells where it listens; of files as it is asked where a database lies and how a
+-- file is; and of journals as they are compared with databases.
 pub record Known (S D F L N : Type 0) : Type 1 where
   pub store : Ghosts S
-  pub databases : databases.Ghosts D (Held S)
+  pub Closed : Type 0
+  pub databases : databases.Ghosts D (Held S) Closed
   pub opens : List ℕ → Result F Error → Type 0
   pub gives : F → F → Result ℕ Error → List ℕ → Type 0
   pub bytes_of : F → Option (List ℕ)

@@ -7,6 +7,7 @@ pub mod Openings
 pub mod NoFiles
 pub mod Networks
 pub mod HostFiles
+pub mod Spares
 pub mod JournalTexts
 pub mod FailedCalls
 pub mod ReadFaults

@@ -36,11 +36,16 @@ pub record IsNoOffice {S : Type 0} (g : Ghosts S) (was new : Held S) (why : Open
   pub told : has_old_tables (state g was).now.schema ≡ true → HasCleanDisk (state g new)
       → TellsOpening (state g was) (state g new) (Err why)
 
+-- a database was closed, with a mark or as it was marked, and this is known of it and of what it
+-- stands in
+abbrev pub IsClosed : {X C : Type 0} → (X → Option ℕ → C → Type 0) → X → Option ℕ → Type 0
+IsClosed {C = C} Closed conn mark = (closed : C) × Closed conn mark closed
+
 -- of databases of which this is known
-module _ {S D : Type 0} (d : databases.Ghosts D (Held S)) where
+module _ {S D C : Type 0} (d : databases.Ghosts D (Held S) C) where
   -- a database was closed, with a mark or as it was marked, whatever came of that
   abbrev pub IsEnded : Held S → Option ℕ → Type 0
-  IsEnded conn mark = (told : Result (Unit {0}) Error) × d.ended conn mark told
+  IsEnded conn mark = (told : Result C Error) × d.ended conn mark told
 
   module _ (path : List ℕ) where
     -- No database was opened at a path, for this: that failed so, or it has a transaction open as it
@@ -98,11 +103,12 @@ module _ {S : Type 0} (g : Ghosts S) (Opened : Held S → Type 0) where
 -- A command that serves the office at a path ended so. Where it failed, there was no office; or it
 -- stopped for this, and the office was closed, whatever came of that. Or all was done, and the office
 -- couldn't be closed.
-abbrev pub IsServed : {S D : Type 0} → Ghosts S → (d : databases.Ghosts D (Held S))
+abbrev pub IsServed : {S D C : Type 0} → Ghosts S → (d : databases.Ghosts D (Held S) C)
     → (path : List ℕ) → (Done : (old new : Held S) → Type 0)
     → (Stops : CommandFault → (old new : Held S) → Type 0) → (mark : Option ℕ)
     → Result (Unit {0}) CommandFault → Type 0
-IsServed g d path Done Stops mark (Ok done) = WasServed g (d.opened path) Done mark d.closed
+IsServed g d path Done Stops mark (Ok done) =
+    WasServed g (d.opened path) Done mark (IsClosed d.closed)
 IsServed g d path Done Stops mark (Err why) =
     IsOfOpening d path g why ⊎ WasServed g (d.opened path) (Stops why) mark (IsEnded d)
     ⊎ ((why ≡ fault.Close) × WasServed g (d.opened path) Done mark (IsEnded d))

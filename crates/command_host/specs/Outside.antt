@@ -18,14 +18,16 @@ use Rattle.command_host.specs.Known.{Known}
 
 -- Its type has what is known of each part, also of what files and sockets are otherwise, which isn't
 -- wanted here.
-abbrev pub known : {H S D F J N I R L : Type 0} {s : Ghosts S} {d : databases.Ghosts D (Held S)}
+abbrev pub known : {H S D F J N C I R L : Type 0} {s : Ghosts S}
+    {d : databases.Ghosts D (Held S) C}
     {f : files.Ghosts F I R} {b : read.Ghosts I} {b-1 : write.Ghosts I} {b-2 : seek.Ghosts I}
     {r : read.Ghosts R} {j : journals.Ghosts J L} {l : disk.Ghosts L} {n : net.Ghosts N}
     {t-1 : read.Ghosts TcpStream} {t-2 : write.Ghosts TcpStream} {t-3 : raw.Ghosts TcpStream}
     {t-4 : raw.Ghosts TcpListener} {c : clock.Ghosts N}
-    → Outside H S D F J N I R L s d f b b-1 b-2 r j l n t-1 t-2 t-3 t-4 c → Known S D I L N
-known {s = s} {d = d} {f = f} {b = b} {j = j} {l = l} {n = n} {c = c} host = record {
+    → Outside H S D F J N C I R L s d f b b-1 b-2 r j l n t-1 t-2 t-3 t-4 c → Known S D I L N
+known {C = C} {s = s} {d = d} {f = f} {b = b} {j = j} {l = l} {n = n} {c = c} host = record {
   store = s;
+  Closed = C;
   databases = d;
   opens = f.opens host.files.now;
   gives = f.gives;

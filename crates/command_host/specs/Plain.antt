@@ -15,7 +15,7 @@ plain_char c = if is_control c then escape_of c else encode_utf8 c
 unfoldable pub plain : List ℕ → List ℕ
 plain text = flat_map plain_char (chars text)
 
--- the same of a text of lines, whose ends stay
+-- a text of lines is escaped alike, but for the ends of its lines
 abbrev pub plain_or_end : ℕ → List ℕ
 plain_or_end c = if c == 10 then 10 ∷ [] else plain_char c
 

@@ -21,7 +21,7 @@ unread_at path (fault.Endless none) = Some path
 unread_at path (fault.File why) = unread_file path why
 unread_at path why = if tells_of_read why then Some path else None
 
--- that one of two documents, at the paths BASE and NEW, of which the fault is
+-- the one of two documents, at the paths BASE and NEW, of which the fault is
 abbrev pub unread_of : (base new : List ℕ) → CommandFault → Option (List ℕ)
 unread_of base new (fault.Compared (compared.Base why)) = unread_file base why
 unread_of base new (fault.Compared (compared.New why)) = unread_file new why

@@ -1,6 +1,6 @@
 //! Databases at paths.
 
-ghost use Rattle.std.specs.Prelude.{ℕ, List, Option, Result, Bool, ⊤, IfErr, IfOk, OnOk};
+ghost use Rattle.std.specs.Prelude.{ℕ, List, Option, Result, Bool, ⊤, IfErr, IfOk};
 ghost use Rattle.std.specs.declared.io.Error.{Error as IoError};
 ghost use Rattle.sqlite.specs.declared.error.Error.{Error};
 
@@ -13,6 +13,9 @@ use std::io;
 pub trait Databases {
     /// A connection to one.
     type Database: Drop;
+
+    /// What one that was closed stands in.
+    type Closed: Drop;
 
     /// What came of looking whether something is at a path.
     ghost sees: { List ℕ → Result Bool IoError → Type 0 } = { λ _ _. ⊤ };
@@ -41,15 +44,16 @@ pub trait Databases {
         ensures opened { IfOk result (λ database. opened path.now database) }
         ensures refused { IfErr result (λ error. refused path.now error) };
 
-    /// What is known of the database that was closed, with a mark or as it was marked.
-    ghost closed: { Self.Database → Option ℕ → Type 0 } = { λ _ _. ⊤ };
+    /// What is known of the database that was closed, with a mark or as it was marked, and of what it
+    /// stands in.
+    ghost closed: { Self.Database → Option ℕ → Self.Closed → Type 0 } = { λ _ _ _. ⊤ };
 
     /// What came of closing a database so.
-    ghost ended: { Self.Database → Option ℕ → Result ⊤ Error → Type 0 } = { λ _ _ _. ⊤ };
+    ghost ended: { Self.Database → Option ℕ → Result Self.Closed Error → Type 0 } = { λ _ _ _. ⊤ };
 
     /// Closes a database, so that all of it stands in the one file at its path, and has this mark;
-    /// without one it keeps the one that it has.
-    fn close(&self, database: Self::Database, mark: Option<u32>) -> Result<(), Error>
-        ensures closed { OnOk result (closed database mark) }
+    /// without one it keeps the one that it has. Gives what it stands in.
+    fn close(&self, database: Self::Database, mark: Option<u32>) -> Result<Self::Closed, Error>
+        ensures closed { IfOk result (closed database mark) }
         ensures ended { ended database mark result };
 }

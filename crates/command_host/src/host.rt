@@ -1,6 +1,5 @@
 //! What a program gets from outside, as one.
 
-ghost use Rattle.std.specs.Prelude.{◌≡◌};
 ghost use Rattle.command_host.specs.Known.{AreKnown};
 
 use crate::databases::Databases;
@@ -72,31 +71,4 @@ impl<
     type Journals = J;
 
     type Network = N;
-}
-
-/// All that a program gets from outside, of these.
-pub fn gather<
-    'h,
-    S: Alter + Drop + 'h,
-    D: Databases<Database = Connection<S>>,
-    F: PassFiles,
-    J: Journals,
-    N: Network,
->(
-    databases: &'h D,
-    files: &'h F,
-    journals: &'h J,
-    network: &'h N,
-) -> Outside<'h, HostOf<S, D, F, J, N>>
-    ensures databases { result.databases.now ≡ databases.now }
-    ensures files { result.files.now ≡ files.now }
-    ensures journals { result.journals.now ≡ journals.now }
-    ensures network { result.network.now ≡ network.now }
-{
-    Outside {
-        databases,
-        files,
-        journals,
-        network,
-    }
 }

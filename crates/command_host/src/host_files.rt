@@ -9,6 +9,7 @@ use database_head::{HEAD, user_version};
 use marked_store::close_with;
 use no_memory::NoMemory;
 use sqlite::{Connection, Error, ErrorCode, FileFrom, FileStore, Start};
+use sqlite_disk::Files;
 use std::alloc::AllocError;
 use std::fs::{File, OpenOptions, Permissions};
 use std::io::{ErrorKind, Read};
@@ -92,12 +93,21 @@ impl<'r, T: Start + Copy> HostFiles<'r, T> {
     }
 }
 
+/// The files of the host that a database was closed into.
+#[derive(Drop)]
+pub struct ClosedFiles<T: Start + Copy> {
+    /// The database's file and its log.
+    pub files: Files<FileFrom<T>>,
+}
+
 impl<T: Start + Copy> Databases for HostFiles<'_, T> {
     type Database = Connection<FileStore<FileFrom<T>>>;
 
+    type Closed = ClosedFiles<T>;
+
     ghost opened = { λ path. IsFoundIn (image_at T.Start) };
 
-    ghost closed = { IsClosedInto };
+    ghost closed = { λ conn mark given. IsClosedInto conn mark given.files };
 
     fn is_there(&self, path: &str) -> io::Result<bool> {
         fs::exists(self.rt, path)
@@ -119,9 +129,9 @@ impl<T: Start + Copy> Databases for HostFiles<'_, T> {
         &self,
         database: Connection<FileStore<FileFrom<T>>>,
         mark: Option<u32>,
-    ) -> Result<(), Error> {
+    ) -> Result<ClosedFiles<T>, Error> {
         match close_with(database, mark) {
-            Ok(_) => Ok(()),
+            Ok(files) => Ok(ClosedFiles { files }),
             Err((error, store)) => {
                 drop(store.close());
                 Err(error)
@@ -150,6 +160,8 @@ impl Start for UnknownFiles {
 impl Databases for HostRuntime {
     type Database = Connection<FileStore<FileFrom<UnknownFiles>>>;
 
+    type Closed = ClosedFiles<UnknownFiles>;
+
     fn is_there(&self, path: &str) -> io::Result<bool> {
         fs::exists(self, path)
     }
@@ -166,7 +178,7 @@ impl Databases for HostRuntime {
         &self,
         database: Connection<FileStore<FileFrom<UnknownFiles>>>,
         mark: Option<u32>,
-    ) -> Result<(), Error> {
+    ) -> Result<ClosedFiles<UnknownFiles>, Error> {
         HostFiles::new(self, UnknownFiles).close(database, mark)
     }
 }

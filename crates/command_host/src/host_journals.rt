@@ -3,6 +3,7 @@
 use crate::file_id::{FileId, folder_of, id_of, is_one_file};
 use crate::journals::Journals;
 use crate::no_file::NoFile;
+use crate::spare::{free_spare, remove_spare};
 use named_disk::{Name, NamedDisk};
 use no_memory::NoMemory;
 use sqlite::{FileFrom, Start};
@@ -96,24 +97,6 @@ impl Name for HostName {
             Err(_) => false,
         }
     }
-}
-
-// The name of the file that opening a journal's makes beside it, where nothing has that name.
-fn free_spare(rt: &HostRuntime, path: &str) -> io::Result<Option<String>> {
-    let real = fs::canonicalize(rt, path)?;
-    let spare = format!(in rt.alloc(); "{}-wal", real.as_str())?;
-    match fs::symlink_metadata(rt, spare.as_str()) {
-        Err(error) if error.kind() == ErrorKind::NotFound => Ok(Some(spare)),
-        _ => Ok(None),
-    }
-}
-
-// Removes the empty file that was made beside a journal's.
-fn remove_spare(rt: &HostRuntime, spare: &str) -> io::Result<()> {
-    if fs::symlink_metadata(rt, spare)?.len() == 0 {
-        fs::remove_file(rt, spare)?;
-    }
-    Ok(())
 }
 
 /// The journals in the files of the host. `T` stands for what a file holds as it is opened: what is

@@ -18,6 +18,7 @@ mod noted;
 mod opening;
 mod place;
 mod plain;
+mod spare;
 mod unread;
 mod written;
 
@@ -25,8 +26,8 @@ pub use databases::Databases;
 pub use fault::CommandFault;
 pub use files::PassFiles;
 pub use founding_fault::FoundingWordsFault;
-pub use host::{Host, HostOf, Outside, gather};
-pub use host_files::{HostFiles, UnknownFiles};
+pub use host::{Host, HostOf, Outside};
+pub use host_files::{ClosedFiles, HostFiles, UnknownFiles};
 pub use host_journals::{HostJournals, HostName};
 pub use journal_text::{JournalText, text_at, told_of_text};
 pub use journals::Journals;

@@ -3,9 +3,9 @@
 ghost use Rattle.std.specs.Prelude.{◌≡◌, IfErr, IfOk, Ok, OnOk};
 ghost use Rattle.sqlite.specs.Held.{state};
 ghost use Rattle.office_store.specs.Shown.{IsIdle};
-ghost use Rattle.command_host.specs.Openings.{fault_of_opening, IsEnded, IsFirstOf, IsNotThere};
-ghost use Rattle.command_host.specs.Openings.{IsOfOpening, IsOpenedOffice, IsUnlimited, IsUnopened};
-ghost use Rattle.command_host.specs.Openings.{IsUnread, IsWithJournal};
+ghost use Rattle.command_host.specs.Openings.{fault_of_opening, IsClosed, IsEnded, IsFirstOf};
+ghost use Rattle.command_host.specs.Openings.{IsNotThere, IsOfOpening, IsOpenedOffice, IsUnlimited};
+ghost use Rattle.command_host.specs.Openings.{IsUnopened, IsUnread, IsWithJournal};
 
 use crate::databases::Databases;
 use crate::fault::CommandFault;
@@ -148,12 +148,12 @@ pub fn close<S: Alter, D: Databases<Database = Connection<S>>>(
     office: Office<S>,
     mark: Option<u32>,
 ) -> Result<(), CommandFault>
-    ensures closed { OnOk result (D.closed office mark) }
+    ensures closed { OnOk result (IsClosed D.closed office mark) }
     ensures ended { IsEnded D.Databases office mark }
     ensures fault { IfErr result (λ fault. fault ≡ CommandFault.Close) }
 {
     match databases.close(office.into_connection(), mark) {
-        Ok(()) => Ok(()),
+        Ok(_) => Ok(()),
         Err(_) => Err(CommandFault::Close),
     }
 }

@@ -153,6 +153,8 @@ struct Unclosed {
 impl Databases for Unclosed {
     type Database = Connection<MemStore>;
 
+    type Closed = ();
+
     fn is_there(&self, _path: &str) -> io::Result<bool> {
         Ok(true)
     }

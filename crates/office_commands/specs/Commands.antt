@@ -27,13 +27,14 @@ use Rattle.reading_commands.specs.Verifications.{HasVerified}
 use Rattle.office_commands.specs.Unread.{unread_by}
 use Rattle.office_commands.specs.declared.ended.Ended.{Ended}
 use Rattle.no_memory.specs.Witness.{witness}
+use Rattle.no_memory.specs.declared.witness.NoMemory.{«NoMemory» as Want}
 
 -- a fact holds where a flag is set
 abbrev pub IfSet : Bool → Type 0 → Type 0
 IfSet true Holds = Holds
 IfSet false Holds = Unit {0}
 
--- it ended with this status, and nothing was to be said
+-- a command ended with this status, and nothing was to be said
 abbrev pub ended_well : ℕ → Ended
 ended_well status = record { status = status; why = None; witness = None }
 
@@ -55,7 +56,8 @@ module _ {S D F L N O : Type 0} (k : Known S D F L N) (contents : O → Option (
   abbrev pub HasRun : Command → (came left : Option (List ℕ)) (output wrote : Counted O) → ℕ
       → Type 0
   HasRun command.Trial came left output wrote status =
-      IsTrial contents came left output wrote (Ok (tt {0})) × (status ≡ 0)
+      ((want : Option Want) × IsTrial contents came left output wrote want (Ok (tt {0})))
+      × (status ≡ 0)
   HasRun (command.Check file) came left output wrote status =
       HasChecked k.opens k.bytes_of contents output wrote file.now × (status ≡ 0)
   HasRun (command.Execve words) came left output wrote status =
@@ -63,7 +65,8 @@ module _ {S D F L N O : Type 0} (k : Known S D F L N) (contents : O → Option (
   HasRun (command.Init words) came left output wrote status =
       HasFounded k words × IsWhole contents output wrote (codes "founded\n") × (status ≡ 0)
   HasRun (command.Desk database journal) came left output wrote status =
-      IsDesk k contents output wrote came left database.now journal (Ok (tt {0}))
+      ((want : Option Want)
+      × IsDesk k contents output wrote came left want database.now journal (Ok (tt {0})))
       × (status ≡ 0)
   HasRun (command.Serve words) came left output wrote status =
       IsServedOver k contents output wrote words (Ok (tt {0})) × (status ≡ 0)

@@ -13,6 +13,7 @@ use Rattle.changing_commands.specs.Migrations.{FailsToMigrateAt, HasMigrated}
 use Rattle.changing_commands.specs.Rebuildings.{FailsToRebuild}
 use Rattle.changing_commands.specs.Served.{IsDesk, IsMarkedWith, IsServedOver}
 use Rattle.changing_commands.specs.Trials.{IsTrial}
+use Rattle.no_memory.specs.declared.witness.NoMemory.{«NoMemory» as Want}
 use Rattle.reading_commands.specs.DocumentFailures.{FailsToCheck, FailsToCompare, FailsToExecute}
 use Rattle.reading_commands.specs.Reports.{FailsToProve, IsUntoldAt}
 use Rattle.reading_commands.specs.Verifications.{FailsToVerify, HasVerified}
@@ -40,7 +41,7 @@ module _ {S D F L N O : Type 0} (k : Known S D F L N) (contents : O → Option (
   abbrev pub HasFailed : Command → (came left : Option (List ℕ)) (output wrote : Counted O)
       → CommandFault → Type 0
   HasFailed command.Trial came left output wrote why =
-      IsTrial contents came left output wrote (Err why)
+      (want : Option Want) × IsTrial contents came left output wrote want (Err why)
   HasFailed (command.Check file) came left output wrote why =
       FailsToCheck k.opens k.gives k.bytes_of contents output wrote file.now why
   HasFailed (command.Execve words) came left output wrote why =
@@ -49,7 +50,8 @@ module _ {S D F L N O : Type 0} (k : Known S D F L N) (contents : O → Option (
       FailsToSay contents output wrote (codes "founded\n") (HasFounded k words)
       (FailsToInit k words why) why
   HasFailed (command.Desk database journal) came left output wrote why =
-      IsDesk k contents output wrote came left database.now journal (Err why)
+      (want : Option Want)
+      × IsDesk k contents output wrote came left want database.now journal (Err why)
   HasFailed (command.Serve words) came left output wrote why =
       IsServedOver k contents output wrote words (Err why)
   HasFailed (command.Migrate database without) came left output wrote why =

@@ -1,4 +1,4 @@
--- What is known of a host: of one that is gathered, by its parts, and of the one that the program runs on.
+-- What is known of a host: of one, by its parts, and of the one that the program runs on.
 use Rattle.std.specs.Prelude.{ℕ, List, [], Option, true, ⊤}
 use Rattle.sqlite.specs.Files.{over_files}
 use Rattle.sqlite.specs.Held.{Held}
@@ -16,6 +16,7 @@ use Rattle.command_host.specs.HostFiles.{IsClosedInto, IsFoundIn}
 use Rattle.command_host.specs.Known.{Known}
 use Rattle.command_host.specs.declared.databases.Databases as databases
 use Rattle.command_host.specs.declared.files.PassFiles as files
+use Rattle.command_host.specs.declared.host_files.ClosedFiles.{ClosedFiles}
 use Rattle.command_host.specs.declared.host_files.HostFiles.{HostFiles}
 use Rattle.command_host.specs.declared.host_files.UnknownFiles.{UnknownFiles}
 use Rattle.command_host.specs.declared.host_journals.HostName.{HostName}
@@ -24,11 +25,12 @@ use Rattle.command_host.specs.declared.network.PassNet as net
 
 -- what is known of a store and the databases over it, of files, of journals and their files as disks, and of a
 -- network and its clock
-abbrev pub known_of : {S D F J N I R L : Type 0} → Ghosts S → databases.Ghosts D (Held S)
+abbrev pub known_of : {S D C F J N I R L : Type 0} → Ghosts S → databases.Ghosts D (Held S) C
     → files.Ghosts F I R → (bytes_of : I → Option (List ℕ)) → F → journals.Ghosts J L → disk.Ghosts L → J
     → net.Ghosts N → clock.Ghosts N → Known S D I L N
-known_of store databases f bytes_of files j log journals n c = record {
+known_of {C = C} store databases f bytes_of files j log journals n c = record {
   store = store;
+  Closed = C;
   databases = databases;
   opens = f.opens files;
   gives = f.gives;
@@ -59,13 +61,14 @@ JournalFile held = NamedDisk (DatabaseFile held) HostName
 module _ {T U : Type 0} (held : start.Ghosts T) (journal : start.Ghosts U)
     (g : disk.Ghosts (DatabaseFile held)) (log : disk.Ghosts (JournalFile journal)) where
   -- what is known of databases in such files: they show what these held, and are closed into them
-  abbrev pub host_databases : databases.Ghosts (HostFiles T) (Held (FileStore (DatabaseFile held) g))
+  abbrev pub host_databases
+      : databases.Ghosts (HostFiles T) (Held (FileStore (DatabaseFile held) g)) (ClosedFiles T held)
   host_databases = record {
     sees = λ path is. ⊤;
     marked = λ path mark. ⊤;
     opened = λ path. IsFoundIn (image_at held);
     refused = λ path error. ⊤;
-    closed = IsClosedInto;
+    closed = λ conn mark given. IsClosedInto conn mark given.files;
     ended = λ database mark told. ⊤;
   }
 
@@ -75,6 +78,7 @@ module _ {T U : Type 0} (held : start.Ghosts T) (journal : start.Ghosts U)
       → Known (FileStore (DatabaseFile held) g) (HostFiles T) I (JournalFile journal) N
   known_here f bytes_of files network = record {
     store = over_files;
+    Closed = ClosedFiles T held;
     databases = host_databases;
     opens = f.opens files;
     gives = f.gives;

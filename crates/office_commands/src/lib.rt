@@ -9,5 +9,5 @@ mod same_file;
 mod unread;
 
 pub use ended::Ended;
-pub use host::{run_here, run_over};
+pub use host::{Parts, run_here};
 pub use run::run_words;

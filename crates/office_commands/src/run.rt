@@ -84,7 +84,7 @@ fn run<H: Host, I: Read, O: Write, E: Write>(
 {
     match command {
         Command::Trial => {
-            serve_trial(alloc, input, output)?;
+            serve_trial(alloc, input, output).ended?;
             Ok(0)
         }
         Command::Check { file } => run_check(host.files, alloc, file, output),
@@ -107,7 +107,7 @@ fn run<H: Host, I: Read, O: Write, E: Write>(
             Ok(0)
         }
         Command::Desk { database, journal } => {
-            serve_stored(host, alloc, database, *journal, input, output)?;
+            serve_stored(host, alloc, database, *journal, input, output).ended?;
             Ok(0)
         }
         Command::Compare { base, new } => run_compare(host.files, alloc, base, new, output),

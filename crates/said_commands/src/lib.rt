@@ -2,10 +2,11 @@
 #![tactic(auto)]
 
 use command_host::{Databases, HostJournals, Network, UnknownFiles};
-use office_commands::run_over;
+use office_commands::Parts;
 use sqlite::{Alter, Connection};
 use std::alloc::{AllocError, Global};
 use std::io::Write;
+use std::marker::PhantomData;
 use streams::Counted;
 use test_doubles::fake_streams::Source;
 
@@ -39,11 +40,14 @@ fn run_line<S: Alter + Drop, D: Databases<Database = Connection<S>>, N: Network,
     }
     let mut errors = Counted::new(Vec::new(alloc));
     let journals = HostJournals::new(rt, UnknownFiles);
-    let ended = run_over(
+    let parts = Parts {
         databases,
-        rt,
-        &journals,
+        files: rt,
+        journals: &journals,
         network,
+        tables: PhantomData,
+    };
+    let ended = parts.run_over(
         alloc,
         &words,
         &mut Counted::new(input),

@@ -1,6 +1,6 @@
 use Rattle.std.proofs.Common.{rules, ◌≡◌, ℕ, Err, Some, inl, inr, refl, subst}
 use Rattle.command_host.specs.ReadFaults.{IsToldOf}
-use Rattle.command_host.specs.Openings.{IsEnded}
+use Rattle.command_host.specs.Openings.{IsClosed, IsEnded}
 use Rattle.command_host.specs.declared.fault.CommandFault.{CommandFault}
 use Rattle.changing_commands.proofs.rebuild.rebuild_at.Goals as goal
 
@@ -25,7 +25,7 @@ returns-in-Ok-rebuild_as_read-clause-rebuilt g c =
       clean = made.ensures.clean;
       lines = made.rebuilt.lines;
       rebuilt = made.ensures.built;
-      closed = subst (λ (n : ℕ). g.D.Databases.closed made.rebuilt.office (Some n)) c.mark_of_lines.ensures c.in_ok-close-in-Ok-rebuild_as_read.ensures.closed;
+      closed = subst (λ (n : ℕ). IsClosed g.D.Databases.closed made.rebuilt.office (Some n)) c.mark_of_lines.ensures c.in_ok-close-in-Ok-rebuild_as_read.ensures.closed;
     }
 
 pub returns-in_err-close-in-Ok-rebuild_as_read-clause-failed : goal.returns-in_err-close-in-Ok-rebuild_as_read-clause-failed

@@ -1,17 +1,15 @@
-use Rattle.std.proofs.Common.{rules, ◌≡◌, Err, inl}
+use Rattle.std.proofs.Common.{inl}
 use Rattle.command_host.specs.Outside.{known}
 use Rattle.changing_commands.proofs.OpeningFacts.{was_served}
 use Rattle.changing_commands.proofs.stored.serve_alone.Goals as goal
 
-pub returns-in_err-office : goal.returns-in_err-office
-returns-in_err-office g c =
-    let told : c.from_residual.result ≡ Err c.in_err-office.field-0.0 = search rules in
-    rw told (inl c.in_err-office.ensures.fault)
+pub returns-in-Err : goal.returns-in-Err
+returns-in-Err g c = rw c.unbegun.ensures (inl c.in-Err.ensures.fault)
 
 pub returns : goal.returns
 returns g c =
     let k = known c.args.host.now in
-    was_served k.store k.databases _ _ _ _ c.in_ok-office.office c.answer_lines-answered.new.office c.in_ok-office.ensures.opened
-    c.answer_lines-answered.result c.close-closed.result c.first_fault.result
+    was_served k.store k.databases _ _ _ _ c.in-Ok.office c.answer_lines-answered.new.office c.in-Ok.ensures.opened
+    c.answer_lines-answered.result.ended c.close-closed.result c.first_fault.result
     c.answer_lines-answered.ensures.answered c.answer_lines-answered.ensures.stopped
     c.close-closed.ensures.closed c.close-closed.ensures.ended c.close-closed.ensures.fault c.first_fault.ensures

@@ -1,10 +1,8 @@
-use Rattle.std.proofs.Common.{rules, ◌≡◌, Err, inl, inr}
+use Rattle.std.proofs.Common.{inl, inr}
 use Rattle.changing_commands.proofs.stored.serve_unnamed.Goals as goal
 
-pub returns-in_err-look_for_mark : goal.returns-in_err-look_for_mark
-returns-in_err-look_for_mark g c =
-    let told : c.from_residual.result ≡ Err c.in_err-look_for_mark.field-0.0 = search rules in
-    rw told (inr c.in_err-look_for_mark.ensures.some)
+pub returns-in-Ok : goal.returns-in-Ok
+returns-in-Ok g c = inl (c.in-Ok.ensures.none, c.serve_alone.ensures)
 
-pub returns : goal.returns
-returns g c = inl (c.in_ok-look_for_mark.ensures.none, c.serve_alone.ensures)
+pub returns-in-Err : goal.returns-in-Err
+returns-in-Err g c = rw c.unbegun.ensures (inr c.in-Err.ensures.some)

@@ -4,6 +4,16 @@ use Rattle.reading_commands.proofs.FailingFacts.{failed_by}
 use Rattle.office_commands.proofs.RunFacts.{all_failed_as, failed_as, run_as}
 use Rattle.office_commands.proofs.run.run.Goals as goal
 
+pub returns-in_ok-serve_trial-in-Trial-clause-done : goal.returns-in_ok-serve_trial-in-Trial-clause-done
+returns-in_ok-serve_trial-in-Trial-clause-done g c =
+    run_as (known c.args.host.now) g.O.Write.contents _ _ _ _ _ _ _
+    c.in-Trial.is ((c.serve_trial.result.witness, rw c.in_ok-serve_trial-in-Trial.was at c.serve_trial.ensures), refl)
+
+pub returns-in_ok-serve_stored-in-Desk-clause-done : goal.returns-in_ok-serve_stored-in-Desk-clause-done
+returns-in_ok-serve_stored-in-Desk-clause-done g c =
+    run_as (known c.args.host.now) g.O.Write.contents _ _ _ _ _ _ _
+    c.in-Desk.is ((c.serve_stored.result.witness, rw c.in_ok-serve_stored-in-Desk.was at c.serve_stored.ensures), refl)
+
 pub returns-in_ok-print-in-Init-clause-done : goal.returns-in_ok-print-in-Init-clause-done
 returns-in_ok-print-in-Init-clause-done g c =
     run_as (known c.args.host.now) g.O.Write.contents _ _ _ _ _ _ _
@@ -24,7 +34,7 @@ pub returns-in_err-serve_stored-in-Desk-clause-failed : goal.returns-in_err-serv
 returns-in_err-serve_stored-in-Desk-clause-failed g c =
     failed_by _ _ c.in_err-serve_stored-in-Desk.field-0.0 c.from_residual-in_err-serve_stored-in-Desk.ensures.1
     (failed_as (known c.args.host.now) g.O.Write.contents _ _ _ _ _ _ _
-    c.in-Desk.is c.in_err-serve_stored-in-Desk.ensures)
+    c.in-Desk.is (c.serve_stored.result.witness, rw c.in_err-serve_stored-in-Desk.was at c.serve_stored.ensures))
 
 pub returns-in-Compare-clause-failed : goal.returns-in-Compare-clause-failed
 returns-in-Compare-clause-failed g c =
