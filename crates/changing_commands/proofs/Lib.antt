@@ -1,4 +1,5 @@
 pub mod ServingFacts
+pub mod ServedFacts
 pub mod OpeningFacts
 pub mod MigratingFacts
 pub mod KeptFacts

@@ -1,6 +1,5 @@
 -- What serving over HTTP left, however it ended.
 use Rattle.std.proofs.Common.{◌≡◌, ◌≤◌, ◌∙◌, ℕ, List, [], Option, None, Result, Ok, Err, inl, inr, arith, length, refl, subst, sym}
-use Rattle.std.specs.Prelude.{IfErr, OnOk}
 use Rattle.std.specs.declared.io.Error.{Error}
 use Rattle.std.specs.declared.net.socket_addr.SocketAddr.{SocketAddr}
 use Rattle.std.specs.declared.net.tcp.TcpListener.{TcpListener}
@@ -17,9 +16,8 @@ use Rattle.desk_http.specs.Listening.{AreServedWith, AreSoMany}
 use Rattle.desk_http.proofs.ExchangedFacts.{none_exchanged}
 use Rattle.command_host.specs.declared.fault.CommandFault.{CommandFault}
 use Rattle.command_host.specs.declared.fault.CommandFault.TheVariants as fault
-use Rattle.changing_commands.specs.Serving.{listening_line, longest_exchange, HasBegun, HasListened}
-use Rattle.changing_commands.specs.Serving.{HasServed, HasServedUpTo, IsAt, IsServing}
-use Rattle.changing_commands.specs.Serving.{IsTellingPort, IsUnbound}
+use Rattle.changing_commands.specs.Serving.{listening_line, longest_exchange, HasListened}
+use Rattle.changing_commands.specs.Serving.{HasServedUpTo, IsAt, IsServing, IsTellingPort, IsUnbound}
 
 -- as many as were served are no more than were asked for
 no_more : (count most : ℕ) (result : Result (Unit {0}) WriteFailed) → AreSoMany count most result → count ≤ most
@@ -79,20 +77,11 @@ module _ {N O X : Type 0} (Shows : N → Result Duration Error → Type 0) (Bind
     }
 
     -- all was served
-    pub served : HasListened Shows Binds Tells contents m words old new output wrote (Ok (tt {0})) → HasServed Shows Binds Tells contents m words old new output wrote
+    pub served : HasListened Shows Binds Tells contents m words old new output wrote (Ok (tt {0}))
+        → IsServing Shows Binds Tells contents m words old new output wrote (Ok (tt {0}))
     served it = record { exchanges = listened (Ok (tt {0})) it; told = it }
 
     -- a line couldn't be written
     pub cut_short : (failed : WriteFailed) → HasListened Shows Binds Tells contents m words old new output wrote (Err failed)
         → IsServing Shows Binds Tells contents m words old new output wrote (Err fault.Write)
     cut_short failed it = record { exchanges = listened (Err failed) it; told = inr (refl, inr (failed, it)) }
-
-    pub served_all : (result : Result (Unit {0}) CommandFault) → IsServing Shows Binds Tells contents m words old new output wrote result
-        → OnOk result (HasServed Shows Binds Tells contents m words old new output wrote)
-    served_all (Ok done) it = record { exchanges = it.exchanges; told = it.told }
-    served_all (Err why) it = tt
-
-    pub begun_with : (result : Result (Unit {0}) CommandFault) → IsServing Shows Binds Tells contents m words old new output wrote result
-        → IfErr result (HasBegun Shows Binds Tells contents m words old new output wrote)
-    begun_with (Ok done) it = tt
-    begun_with (Err why) it = it

@@ -1,5 +1,5 @@
 -- What a desk did with lines, and why it stopped.
-use Rattle.std.specs.Prelude.{ℕ, List, Option, IfSome}
+use Rattle.std.specs.Prelude.{ℕ, List, Option, IfSome, Result, Ok, Err}
 use Rattle.desk.specs.Stands.{AreAnswered, HasHandled, StandsAfter}
 use Rattle.desk.specs.declared.fault.DeskFault.{DeskFault}
 use Rattle.office_policy.specs.Meaning.{Meaning}
@@ -32,3 +32,12 @@ HasStopped contents m came left output wrote want why old new =
     HasHandled m old new
     × IsOfDesk (StandsAfter m old new came left (contents output.inner) (contents wrote.inner) want)
     why
+
+-- a desk ended so
+abbrev pub HasEnded : {O X : Type 0} → (O → Option (List ℕ)) → Meaning X
+    → (came left : Option (List ℕ)) (output wrote : Counted O) (want : Option Want)
+    → Result (Unit {0}) CommandFault → (old new : X) → Type 0
+HasEnded contents m came left output wrote want (Ok done) old new =
+    HasAnswered contents m came output wrote want old new
+HasEnded contents m came left output wrote want (Err why) old new =
+    HasStopped contents m came left output wrote want why old new

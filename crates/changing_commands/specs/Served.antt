@@ -12,9 +12,13 @@ use Rattle.command_host.specs.Openings.{IsServed, IsUnread, IsWithJournal}
 use Rattle.command_host.specs.declared.databases.Databases as databases
 use Rattle.command_host.specs.declared.fault.CommandFault.{CommandFault}
 use Rattle.changing_commands.specs.Journals.{is_marked, journaled_over, IsServedWith}
-use Rattle.changing_commands.specs.Lines.{HasAnswered, HasStopped}
-use Rattle.changing_commands.specs.Serving.{HasBegun, HasServed}
+use Rattle.changing_commands.specs.Lines.{HasEnded}
+use Rattle.changing_commands.specs.Serving.{IsServing}
 use Rattle.no_memory.specs.declared.witness.NoMemory.{«NoMemory» as Want}
+
+-- what is known of any office that was served, by how that ended
+abbrev pub Comes : Type 1
+Comes = (X : Type 0) → Meaning X → Result (Unit {0}) CommandFault → (old new : X) → Type 0
 
 -- a command failed so before anything was opened
 abbrev pub FailsFirst : (CommandFault → Type 0) → Result (Unit {0}) CommandFault → Type 0
@@ -51,62 +55,41 @@ module _ {S D F L N : Type 0} (k : Known S D F L N) where
       (λ mark. IsServedWith k.store k.log (k.finds file) k.databases path mark true
       (λ old new. new ≡ old) (λ why old new. ⊥)) result
 
+-- of the office at a path, which was served so
+module _ {S D F L N : Type 0} (k : Known S D F L N) (Came : Comes) (path : List ℕ) where
+  -- without a journal; the database is closed with a mark, or as it was marked
+  abbrev pub IsServedAlone : (mark : Option ℕ) → Result (Unit {0}) CommandFault → Type 0
+  IsServedAlone mark result =
+      IsServed k.store k.databases path
+      (Came _ (meaning_over k.store) (Ok (tt {0})))
+      (λ why. Came _ (meaning_over k.store) (Err why)) mark result
+
+  abbrev pub IsServedUnnamed : Result (Unit {0}) CommandFault → Type 0
+  IsServedUnnamed result = IsOfUnmarked k.databases path (IsServedAlone None) result
+
+  abbrev pub IsServedKept : (file : List ℕ) → Result (Unit {0}) CommandFault → Type 0
+  IsServedKept file result =
+      IsOfMarked k.databases path
+      (λ mark. IsServedWith k.store k.log (k.finds file) k.databases path mark (is_marked mark)
+      (Came _ (journaled_over k.store k.log) (Ok (tt {0})))
+      (λ why. Came _ (journaled_over k.store k.log) (Err why))) result
+
+  abbrev pub IsServedNamed : (journal : JournalWords) → Result (Unit {0}) CommandFault → Type 0
+  IsServedNamed journal result =
+      IfNamed journal (IsServedUnnamed result) (IsServedAlone (Some 0) result)
+      (λ file. IsServedKept file result)
+
 module _ {S D F L N O : Type 0} (k : Known S D F L N) (contents : O → Option (List ℕ))
     (output wrote : Counted O) where
   -- `desk`, over input that was to come and what of it is left, which told this want of memory
-  module _ (came left : Option (List ℕ)) (want : Option Want) (path : List ℕ) where
-    -- without a journal; the database is closed with a mark, or as it was marked
-    abbrev pub IsDeskAlone : (mark : Option ℕ) → Result (Unit {0}) CommandFault → Type 0
-    IsDeskAlone mark result =
-        IsServed k.store k.databases path
-        (HasAnswered contents (meaning_over k.store) came output wrote want)
-        (HasStopped contents (meaning_over k.store) came left output wrote want) mark result
-
-    abbrev pub IsDeskUnnamed : Result (Unit {0}) CommandFault → Type 0
-    IsDeskUnnamed result = IsOfUnmarked k.databases path (IsDeskAlone None) result
-
-    abbrev pub IsDeskKept : (file : List ℕ) → Result (Unit {0}) CommandFault → Type 0
-    IsDeskKept file result =
-        IsOfMarked k.databases path
-        (λ mark. IsServedWith k.store k.log (k.finds file) k.databases path mark (is_marked mark)
-        (HasAnswered contents (journaled_over k.store k.log) came output wrote want)
-        (HasStopped contents (journaled_over k.store k.log) came left output wrote want)) result
-
-    abbrev pub IsDesk : (journal : JournalWords) → Result (Unit {0}) CommandFault → Type 0
-    IsDesk journal result =
-        IfNamed journal (IsDeskUnnamed result) (IsDeskAlone (Some 0) result)
-        (λ file. IsDeskKept file result)
+  abbrev pub IsDesk : (came left : Option (List ℕ)) (want : Option Want) (path : List ℕ)
+      (journal : JournalWords) → Result (Unit {0}) CommandFault → Type 0
+  IsDesk came left want path journal result =
+      IsServedNamed k (λ X m. HasEnded contents m came left output wrote want) path journal result
 
   -- `serve`
-  module _ (words : ServeWords) where
-    module _ {X : Type 0} (m : Meaning X) where
-      -- all was served as the words ask
-      abbrev pub ServesAll : (old new : X) → Type 0
-      ServesAll old new = HasServed k.shows k.binds k.tells contents m words old new output wrote
-
-      -- the office was served as the words ask, until this was told
-      abbrev pub ServesUntil : CommandFault → (old new : X) → Type 0
-      ServesUntil why old new =
-          HasBegun k.shows k.binds k.tells contents m words old new output wrote why
-
-    -- without a journal; the database is closed with a mark, or as it was marked
-    abbrev pub IsServedAlone : (mark : Option ℕ) → Result (Unit {0}) CommandFault → Type 0
-    IsServedAlone mark result =
-        IsServed k.store k.databases words.database.now
-        (ServesAll (meaning_over k.store)) (ServesUntil (meaning_over k.store)) mark result
-
-    abbrev pub IsServedUnnamed : Result (Unit {0}) CommandFault → Type 0
-    IsServedUnnamed result = IsOfUnmarked k.databases words.database.now (IsServedAlone None) result
-
-    abbrev pub IsServedKept : (file : List ℕ) → Result (Unit {0}) CommandFault → Type 0
-    IsServedKept file result =
-        IsOfMarked k.databases words.database.now
-        (λ mark. IsServedWith k.store k.log (k.finds file) k.databases words.database.now mark
-        (is_marked mark)
-        (ServesAll (journaled_over k.store k.log)) (ServesUntil (journaled_over k.store k.log)))
-        result
-
-    abbrev pub IsServedOver : Result (Unit {0}) CommandFault → Type 0
-    IsServedOver result =
-        IfNamed words.journal (IsServedUnnamed result) (IsServedAlone (Some 0) result)
-        (λ file. IsServedKept file result)
+  abbrev pub IsServedOver : (words : ServeWords) → Result (Unit {0}) CommandFault → Type 0
+  IsServedOver words result =
+      IsServedNamed k
+      (λ X m ended old new. IsServing k.shows k.binds k.tells contents m words old new output wrote
+      ended) words.database.now words.journal result

@@ -105,11 +105,3 @@ module _ {N O X : Type 0} (Shows : N → Result Duration Error → Type 0)
   pub record IsServing (result : Result (Unit {0}) CommandFault) : Type 0 where
     pub exchanges : HasServedUpTo m old new (exchanges_of words.requests)
     pub told : IsTold result
-
-  -- all was served so
-  abbrev pub HasServed : Type 0
-  HasServed = IsServing (Ok (tt {0}))
-
-  -- the office was served so until this was told
-  abbrev pub HasBegun : CommandFault → Type 0
-  HasBegun why = IsServing (Err why)

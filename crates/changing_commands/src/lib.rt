@@ -12,6 +12,7 @@ mod migrate;
 mod rebuild;
 mod reopening;
 mod serve;
+mod served;
 mod stored;
 mod trial;
 

@@ -1,22 +1,18 @@
 //! `serve`: an office in a file, over HTTP on loopback.
 
-ghost use Rattle.std.specs.Prelude.{◌≡◌, IfErr, IfOk, string_bytes};
+ghost use Rattle.std.specs.Prelude.{◌≡◌, IfErr, IfOk, string_bytes, ⊤};
 ghost use Rattle.std.specs.Duration.{as_nanos};
 ghost use Rattle.std.specs.Net.Socket.{socket_ip, socket_port};
 ghost use Rattle.command_host.specs.Networks.{IsLoopback};
 ghost use Rattle.command_host.specs.Outside.{known};
-ghost use Rattle.changing_commands.specs.Served.{IsServedAlone, IsServedKept, IsServedOver};
-ghost use Rattle.changing_commands.specs.Served.{IsServedUnnamed};
+ghost use Rattle.changing_commands.specs.Served.{IsServedOver};
 ghost use Rattle.changing_commands.specs.Serving.{IsAt, IsServing, IsTellingPort, IsUnbound};
 ghost use Rattle.changing_commands.specs.Serving.{listening_line, longest_exchange};
 
-use crate::kept::{close_kept, kept_office_at};
-use command_host::{
-    CommandFault, Host, Network, Outside, close, first_fault, look_for_mark, mark_at, office_at,
-    print,
-};
-use command_line::{JournalWords, ServeWords};
-use desk_http::Server;
+use crate::served::{Serves, serve_named};
+use command_host::{CommandFault, Host, Network, Outside, PassNet, print};
+use command_line::ServeWords;
+use desk_http::{PassClock, Server};
 use office_policy::Handler;
 use std::alloc::{AllocError, Global};
 use std::io::Write;
@@ -90,54 +86,30 @@ fn serve_bound<N: Network, H: Handler, O: Write>(
     }
 }
 
-// The same of the office at a path, without a journal. The database is closed with a mark, where one
-// is given.
-fn serve_alone<H: Host, O: Write>(
-    host: &Outside<'_, H>,
-    alloc: Global,
-    words: &ServeWords<'_>,
-    mark: Option<u32>,
-    output: &mut Counted<O>,
-) -> Result<(), CommandFault>
-    ensures { IsServedAlone (known host.now) O.contents output.old output.new words.now mark
-        result }
-{
-    let mut office = office_at(host.databases, words.database)?;
-    let served = serve_bound(host.network, &mut office, alloc, words, output);
-    let closed = close(host.databases, office, mark);
-    first_fault(served, closed)
+// Exchanges over a network, as words ask for them.
+#[derive(Drop)]
+struct Exchanges<'w, N> {
+    network: &'w N,
+    words: &'w ServeWords<'w>,
 }
 
-// The same where the office has no journal.
-fn serve_unnamed<H: Host, O: Write>(
-    host: &Outside<'_, H>,
-    alloc: Global,
-    words: &ServeWords<'_>,
-    output: &mut Counted<O>,
-) -> Result<(), CommandFault>
-    ensures { IsServedUnnamed (known host.now) O.contents output.old output.new words.now result }
-{
-    look_for_mark(host.databases, words.database)?;
-    serve_alone(host, alloc, words, None, output)
-}
+// The two are above `Network`, and named since a ghost member sees its own bounds alone.
+impl<N: Network + PassClock + PassNet, O: Write> Serves<(), Counted<O>> for Exchanges<'_, N> {
+    ghost can_serve = { λ _ _. ⊤ };
 
-// The same with the journal at this path.
-fn serve_kept<H: Host, O: Write>(
-    host: &Outside<'_, H>,
-    alloc: Global,
-    words: &ServeWords<'_>,
-    journal: &str,
-    output: &mut Counted<O>,
-) -> Result<(), CommandFault>
-    ensures { IsServedKept (known host.now) O.contents output.old output.new words.now
-        journal.now result }
-{
-    let path = words.database;
-    let mark = mark_at(host.databases, path)?;
-    let mut kept = kept_office_at(host.databases, host.journals, alloc, path, journal, mark)?;
-    let served = serve_bound(host.network, &mut kept, alloc, words, output);
-    let closed = close_kept(host.databases, alloc, kept, mark != 0);
-    first_fault(served, closed)
+    ghost comes = { λ old new came left output wrote X m ended before after.
+        IsServing N.shows N.binds N.tells O.contents m old.words.now before after output wrote
+        ended };
+
+    fn serve<H: Handler>(
+        &mut self,
+        office: &mut H,
+        alloc: Global,
+        _input: &mut (),
+        output: &mut Counted<O>,
+    ) -> Result<(), CommandFault> {
+        serve_bound(self.network, office, alloc, self.words, output)
+    }
 }
 
 /// Serves exchanges with the office at a path, with its journal where the words name one, and
@@ -152,9 +124,17 @@ pub fn serve_http<H: Host, O: Write>(
 ) -> Result<(), CommandFault>
     ensures { IsServedOver (known host.now) O.contents output.old output.new words.now result }
 {
-    match words.journal {
-        JournalWords::Named(file) => serve_kept(host, alloc, words, file, output),
-        JournalWords::Without => serve_alone(host, alloc, words, Some(0), output),
-        JournalWords::Unnamed => serve_unnamed(host, alloc, words, output),
-    }
+    let mut exchanges = Exchanges {
+        network: host.network,
+        words,
+    };
+    serve_named(
+        host,
+        alloc,
+        words.database,
+        words.journal,
+        &mut exchanges,
+        &mut (),
+        output,
+    )
 }

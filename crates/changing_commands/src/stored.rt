@@ -1,93 +1,42 @@
 //! `desk`: the desk of an office in a file.
 
 ghost use Rattle.command_host.specs.Outside.{known};
-ghost use Rattle.changing_commands.specs.Served.{IsDesk, IsDeskAlone, IsDeskKept, IsDeskUnnamed};
+ghost use Rattle.changing_commands.specs.Lines.{HasEnded};
+ghost use Rattle.changing_commands.specs.Served.{IsDesk};
 ghost use Rattle.streams.specs.CallsLeft.{HasCallsLeft, HasFaultsLeft};
 
-use crate::kept::{close_kept, kept_office_at};
 use crate::lines::{DeskEnded, answer_lines};
-use command_host::{Host, Outside, close, first_fault, look_for_mark, mark_at, office_at};
+use crate::served::{Serves, serve_named};
+use command_host::{CommandFault, Host, Outside};
 use command_line::JournalWords;
+use no_memory::NoMemory;
+use office_policy::Handler;
 use std::alloc::Global;
 use std::io::{Read, Write};
 use streams::Counted;
 
-// The same without a journal. The database is closed with a mark, where one is given.
-fn serve_alone<H: Host, R: Read, W: Write>(
-    host: &Outside<'_, H>,
-    alloc: Global,
-    path: &str,
-    mark: Option<u32>,
-    input: &mut Counted<R>,
-    output: &mut Counted<W>,
-) -> DeskEnded
-    requires reads { HasCallsLeft input.old }
-    requires writes { HasFaultsLeft output.old }
-    ensures { IsDeskAlone (known host.now) W.contents output.old output.new
-        (R.remaining input.old.inner) (R.remaining input.new.inner) result.witness path.now mark
-        result.ended }
-{
-    let mut office = match office_at(host.databases, path) {
-        Ok(office) => office,
-        Err(fault) => return DeskEnded::unbegun(fault),
-    };
-    let answered = answer_lines(&mut office, alloc, input, output);
-    let closed = close(host.databases, office, mark);
-    DeskEnded {
-        ended: first_fault(answered.ended, closed),
-        witness: answered.witness,
-    }
+// A desk, and the witness, where its answer to a line says that there was no memory.
+#[derive(Drop)]
+struct Desk {
+    witness: Option<NoMemory>,
 }
 
-// The same where the office has no journal.
-fn serve_unnamed<H: Host, R: Read, W: Write>(
-    host: &Outside<'_, H>,
-    alloc: Global,
-    path: &str,
-    input: &mut Counted<R>,
-    output: &mut Counted<W>,
-) -> DeskEnded
-    requires reads { HasCallsLeft input.old }
-    requires writes { HasFaultsLeft output.old }
-    ensures { IsDeskUnnamed (known host.now) W.contents output.old output.new
-        (R.remaining input.old.inner) (R.remaining input.new.inner) result.witness path.now
-        result.ended }
-{
-    match look_for_mark(host.databases, path) {
-        Ok(()) => serve_alone(host, alloc, path, None, input, output),
-        Err(fault) => DeskEnded::unbegun(fault),
-    }
-}
+impl<R: Read, W: Write> Serves<Counted<R>, Counted<W>> for Desk {
+    ghost can_serve = { λ input output. HasCallsLeft input × HasFaultsLeft output };
 
-// The same with the journal at this path.
-fn serve_kept<H: Host, R: Read, W: Write>(
-    host: &Outside<'_, H>,
-    alloc: Global,
-    path: &str,
-    journal: &str,
-    input: &mut Counted<R>,
-    output: &mut Counted<W>,
-) -> DeskEnded
-    requires reads { HasCallsLeft input.old }
-    requires writes { HasFaultsLeft output.old }
-    ensures { IsDeskKept (known host.now) W.contents output.old output.new
-        (R.remaining input.old.inner) (R.remaining input.new.inner) result.witness path.now
-        journal.now result.ended }
-{
-    let mark = match mark_at(host.databases, path) {
-        Ok(mark) => mark,
-        Err(fault) => return DeskEnded::unbegun(fault),
-    };
-    let (databases, journals) = (host.databases, host.journals);
-    let mut kept = match kept_office_at(databases, journals, alloc, path, journal, mark) {
-        Ok(kept) => kept,
-        Err(fault) => return DeskEnded::unbegun(fault),
-    };
-    let answered = answer_lines(&mut kept, alloc, input, output);
-    let closed = close_kept(host.databases, alloc, kept, mark != 0);
-    DeskEnded {
-        ended: first_fault(answered.ended, closed),
-        witness: answered.witness,
+    ghost comes = { λ old new came left output wrote X m. HasEnded W.contents m
+        (R.remaining came.inner) (R.remaining left.inner) output wrote new.witness };
+
+    fn serve<H: Handler>(
+        &mut self,
+        office: &mut H,
+        alloc: Global,
+        input: &mut Counted<R>,
+        output: &mut Counted<W>,
+    ) -> Result<(), CommandFault> {
+        let answered = answer_lines(office, alloc, input, output);
+        self.witness = answered.witness;
+        answered.ended
     }
 }
 
@@ -109,9 +58,10 @@ pub fn serve_stored<H: Host, R: Read, W: Write>(
         (R.remaining input.old.inner) (R.remaining input.new.inner) result.witness path.now
         journal.entry result.ended }
 {
-    match journal {
-        JournalWords::Named(file) => serve_kept(host, alloc, path, file, input, output),
-        JournalWords::Without => serve_alone(host, alloc, path, Some(0), input, output),
-        JournalWords::Unnamed => serve_unnamed(host, alloc, path, input, output),
+    let mut desk = Desk { witness: None };
+    let ended = serve_named(host, alloc, path, journal, &mut desk, input, output);
+    DeskEnded {
+        ended,
+        witness: desk.witness,
     }
 }

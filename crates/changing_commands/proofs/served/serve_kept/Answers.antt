@@ -1,8 +1,9 @@
 use Rattle.std.proofs.Common.{rules, ◌≡◌, Err, inl, inr}
 use Rattle.command_host.specs.Outside.{known}
+use Rattle.changing_commands.specs.Journals.{journaled_over}
 use Rattle.changing_commands.proofs.KeptFacts.{was_kept}
-use Rattle.changing_commands.proofs.ServingFacts.{begun_with, served_all}
-use Rattle.changing_commands.proofs.serve.serve_kept.Goals as goal
+use Rattle.changing_commands.proofs.ServedFacts.{all_served, served_until}
+use Rattle.changing_commands.proofs.served.serve_kept.Goals as goal
 
 pub returns-in_err-mark : goal.returns-in_err-mark
 returns-in_err-mark g c =
@@ -17,12 +18,12 @@ returns-in_err-kept g c =
 pub returns : goal.returns
 returns g c =
     let k = known c.args.host.now in
+    let here = c.serve-served.new in
+    let Came = g.S.Serves.comes c.args.server.now here.self c.args.input.now here.input c.args.output.now here.output _ (journaled_over k.store k.log) in
     inl (
       c.in_ok-mark.mark,
       c.in_ok-mark.ensures.read,
-      was_kept k.store k.log _ k.databases _ _ _ _ _ c.in_ok-kept.kept c.serve_bound-served.new.office c.in_ok-kept.ensures.opened
-          c.serve_bound-served.result c.close_kept-closed.result c.first_fault.result
-          (served_all _ _ _ _ _ _ _ _ _ _ c.serve_bound-served.result c.serve_bound-served.ensures)
-          (begun_with _ _ _ _ _ _ _ _ _ _ c.serve_bound-served.result c.serve_bound-served.ensures)
+      was_kept k.store k.log _ k.databases _ _ _ _ _ c.in_ok-kept.kept here.office c.in_ok-kept.ensures.opened c.serve-served.result c.close_kept-closed.result c.first_fault.result
+          (all_served Came _ _ c.serve-served.result c.serve-served.ensures) (served_until Came _ _ c.serve-served.result c.serve-served.ensures)
           c.close_kept-closed.ensures.closed c.close_kept-closed.ensures.ended c.close_kept-closed.ensures.fault c.first_fault.ensures,
     )

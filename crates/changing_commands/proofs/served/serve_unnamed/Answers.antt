@@ -1,5 +1,5 @@
 use Rattle.std.proofs.Common.{rules, ◌≡◌, Err, inl, inr}
-use Rattle.changing_commands.proofs.serve.serve_unnamed.Goals as goal
+use Rattle.changing_commands.proofs.served.serve_unnamed.Goals as goal
 
 pub returns-in_err-look_for_mark : goal.returns-in_err-look_for_mark
 returns-in_err-look_for_mark g c =

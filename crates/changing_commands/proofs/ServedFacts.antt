@@ -1,0 +1,18 @@
+-- What came of serving, by how it ended.
+use Rattle.std.proofs.Common.{Result, Ok, Err}
+use Rattle.std.specs.Prelude.{IfErr, OnOk}
+use Rattle.command_host.specs.declared.fault.CommandFault.{CommandFault}
+
+module _ {X : Type 0} (Came : Result (Unit {0}) CommandFault → (old new : X) → Type 0) (old new : X) where
+  pub all_served : (result : Result (Unit {0}) CommandFault) → Came result old new → OnOk result (Came (Ok (tt {0})) old new)
+  all_served (Ok done) it = it
+  all_served (Err why) it = tt
+
+  pub served_until : (result : Result (Unit {0}) CommandFault) → Came result old new → IfErr result (λ why. Came (Err why) old new)
+  served_until (Ok done) it = tt
+  served_until (Err why) it = it
+
+-- what holds of either end holds
+pub of_either : (P : Result (Unit {0}) CommandFault → Type 0) (result : Result (Unit {0}) CommandFault) → OnOk result (P (Ok (tt {0}))) → IfErr result (λ why. P (Err why)) → P result
+of_either P (Ok done) ok err = ok
+of_either P (Err why) ok err = err
