@@ -5,6 +5,7 @@
 //! measures what they say.
 #![tactic(auto)]
 
+mod at_rest;
 mod figures;
 mod shown;
 

@@ -11,6 +11,7 @@
 
 mod bytes;
 mod exchanges;
+mod memory_office;
 mod place;
 mod run;
 mod said;

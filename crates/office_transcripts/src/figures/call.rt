@@ -15,7 +15,7 @@ use office_store::{
     user_by_token,
 };
 use office_tables::{RevisionRow, Tally};
-use review_policy::{Fault, State, Text};
+use review_policy::{Fault, ProfileName, State, Text};
 use sqlite::{Alter, Connection};
 use std::alloc::Global;
 use std::time::Instant;
@@ -81,6 +81,38 @@ const CALLS: [Call; 26] = [
     Call::DeleteHold,
 ];
 
+// The number behind that of the last revision.
+fn next_number<S: Alter>(
+    alloc: Global,
+    conn: &mut Connection<S>,
+    profile: &ProfileName,
+) -> Result<u32, Fault>
+    requires { IsIdle (state S.Store conn.old) }
+    ensures { IsIdle (state S.Store conn.new) }
+{
+    match last(alloc, conn, profile)? {
+        Some(row) => Ok(row.number.saturating_add(1)),
+        None => Ok(1),
+    }
+}
+
+// A revision of the user, with this number.
+fn revision_of(
+    alloc: Global,
+    sample: &Sample,
+    number: u32,
+    body: &str,
+) -> Result<RevisionRow, Fault> {
+    let user = &sample.user;
+    Ok(RevisionRow {
+        number,
+        author: user.name.clone()?,
+        state: State::Open,
+        body: Text::new(String::from_str(alloc, body)?),
+        digest: user.digest,
+    })
+}
+
 /// Adds a revision after the last one, and answers its number.
 pub fn add<S: Alter>(
     alloc: Global,
@@ -91,19 +123,9 @@ pub fn add<S: Alter>(
     requires { IsIdle (state S.Store conn.old) }
     ensures { IsIdle (state S.Store conn.new) }
 {
-    let Sample { user, profile } = sample;
-    let number = match last(alloc, conn, profile)? {
-        Some(row) => row.number.saturating_add(1),
-        None => 1,
-    };
-    let revision = RevisionRow {
-        number,
-        author: user.name.clone()?,
-        state: State::Open,
-        body: Text::new(String::from_str(alloc, body)?),
-        digest: user.digest,
-    };
-    add_revision(conn, profile, &revision)?;
+    let number = next_number(alloc, conn, &sample.profile)?;
+    let revision = revision_of(alloc, sample, number, body)?;
+    add_revision(conn, &sample.profile, &revision)?;
     Ok(number)
 }
 

@@ -1,9 +1,9 @@
 //! An office that is filled, and then timed.
 
-ghost use Rattle.std.specs.Prelude.{IfOk};
 ghost use Rattle.sqlite.specs.Held.{state};
 ghost use Rattle.office_store.specs.Shown.{IsIdle};
 
+use crate::at_rest::at_rest;
 use crate::figures::call::time_calls;
 use crate::figures::figure::tell_time;
 use crate::figures::fill::fill;
@@ -12,7 +12,9 @@ use crate::figures::sample::{Profiles, Sizes};
 use anyhow::{Result, bail};
 use memory_database::open_in_memory;
 use office_desk::Office;
-use sqlite::{Alter, Connection};
+use office_policy::Handler;
+use sqlite::{Alter, Connection, FileStore};
+use sqlite_disk::Disk;
 use std::time::Instant;
 
 /// What is done over an office's store.
@@ -24,7 +26,7 @@ pub enum Step {
 }
 
 // Makes requests of an office about short profiles, and then about the long one.
-fn ask_both<S: Alter>(rt: &HostRuntime, office: &mut Office<S>, sizes: &Sizes) -> Result<()> {
+fn ask_both<H: Handler>(rt: &HostRuntime, office: &mut H, sizes: &Sizes) -> Result<()> {
     time_requests(rt, office, Profiles::Short, sizes)?;
     time_requests(rt, office, Profiles::Long, sizes)
 }
@@ -36,7 +38,6 @@ fn ask<S: Alter + Drop>(
     sizes: &Sizes,
 ) -> Result<Connection<S>>
     requires { IsIdle (state S.Store conn) }
-    ensures { IfOk result (λ conn. IsIdle (state S.Store conn)) }
 {
     let Ok(mut office) = Office::over(conn) else {
         bail!("no office")
@@ -53,7 +54,6 @@ fn fill_or_call<S: Alter>(
     sizes: &Sizes,
 ) -> Result<()>
     requires { IsIdle (state S.Store conn.old) }
-    ensures { IsIdle (state S.Store conn.new) }
 {
     match step {
         Step::Fill => fill(rt, conn, sizes),
@@ -67,14 +67,11 @@ fn take<S: Alter + Drop>(
     conn: Connection<S>,
     step: Step,
     sizes: &Sizes,
-) -> Result<Connection<S>>
-    requires { IsIdle (state S.Store conn) }
-    ensures { IfOk result (λ conn. IsIdle (state S.Store conn)) }
-{
+) -> Result<Connection<S>> {
+    let mut conn = at_rest(conn)?;
     if let Step::Ask = step {
         return ask(rt, conn, sizes);
     }
-    let mut conn = conn;
     fill_or_call(rt, &mut conn, step, sizes)?;
     Ok(conn)
 }
@@ -85,29 +82,41 @@ fn take_filled<S: Alter + Drop>(
     conn: Connection<S>,
     step: Step,
     sizes: &Sizes,
-) -> Result<()>
-    requires { IsIdle (state S.Store conn) }
-{
+) -> Result<()> {
     let conn = take(rt, conn, Step::Fill, sizes)?;
     take(rt, conn, step, sizes)?;
+    Ok(())
+}
+
+// Fills an office in memory, and takes a step over it.
+fn take_in_memory(rt: &HostRuntime, step: Step, sizes: &Sizes) -> Result<()> {
+    take_filled(rt, open_in_memory(rt.alloc())?, step, sizes)
+}
+
+// Takes a step over a file that was opened from this moment on, and closes it.
+fn take_and_close<D: Disk + Drop>(
+    rt: &HostRuntime,
+    start: &Instant,
+    conn: Connection<FileStore<D>>,
+    step: Step,
+    sizes: &Sizes,
+) -> Result<()> {
+    tell_time(rt, "to open it", start)?;
+    take(rt, conn, step, sizes)?.close()?;
     Ok(())
 }
 
 // Opens a file, takes a step over it and closes it.
 fn take_in_file(rt: &HostRuntime, path: &str, step: Step, sizes: &Sizes) -> Result<()> {
     let start = Instant::now(rt)?;
-    let conn = Connection::open(rt, path)?;
-    tell_time(rt, "to open it", &start)?;
-    take(rt, conn, step, sizes)?.close()?;
-    Ok(())
+    take_and_close(rt, &start, Connection::open(rt, path)?, step, sizes)
 }
 
 /// Fills an office in a file, or in memory, and takes a step over it.
 pub fn time_office(rt: &HostRuntime, path: &str, step: Step, sizes: &Sizes) -> Result<()> {
     if path == ":memory:" {
         println!(rt; "{} users, in memory", sizes.count)?;
-        let conn = open_in_memory(rt.alloc())?;
-        return take_filled(rt, conn, step, sizes);
+        return take_in_memory(rt, step, sizes);
     }
     println!(rt; "{} users, in a file", sizes.count)?;
     take_in_file(rt, path, Step::Fill, sizes)?;

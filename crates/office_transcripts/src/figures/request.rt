@@ -5,11 +5,9 @@ use crate::figures::sample::{Profiles, Sizes, name};
 use anyhow::Result;
 use json_requests::read_line;
 use json_tree::Scratch;
-use office_desk::Office;
 use office_policy::Handler;
 use profile_text::digest;
 use review_policy::{Answer, Reply, Request};
-use sqlite::Alter;
 use std::alloc::{AllocError, Global};
 use std::time::Instant;
 
@@ -113,9 +111,9 @@ fn request(alloc: Global, about: &About, form: &str) -> Result<Request> {
 }
 
 // Handles a request, and adds what it came to.
-fn handle_timed<S: Alter>(
+fn handle_timed<H: Handler>(
     rt: &HostRuntime,
-    office: &mut Office<S>,
+    office: &mut H,
     request: &Request,
     about: &mut About,
     figure: &mut Figure,
@@ -129,9 +127,9 @@ fn handle_timed<S: Alter>(
 }
 
 // Makes the request of a line that is filled in.
-fn make<S: Alter>(
+fn make<H: Handler>(
     rt: &HostRuntime,
-    office: &mut Office<S>,
+    office: &mut H,
     form: &str,
     about: &mut About,
     figure: &mut Figure,
@@ -141,9 +139,9 @@ fn make<S: Alter>(
 }
 
 // Makes a request of each kind about the same.
-fn make_each<S: Alter>(
+fn make_each<H: Handler>(
     rt: &HostRuntime,
-    office: &mut Office<S>,
+    office: &mut H,
     about: &mut About,
     figures: &mut [Figure],
 ) -> Result<()> {
@@ -157,9 +155,9 @@ fn make_each<S: Alter>(
 
 /// Makes requests of each kind about these profiles, each time about another user and with other documents, and prints what
 /// they came to.
-pub fn time_requests<S: Alter>(
+pub fn time_requests<H: Handler>(
     rt: &HostRuntime,
-    office: &mut Office<S>,
+    office: &mut H,
     profiles: Profiles,
     sizes: &Sizes,
 ) -> Result<()> {

@@ -15,18 +15,31 @@ fn words_of(alloc: Global, line: &str) -> Result<Vec<String>, AllocError> {
     Ok(words)
 }
 
-/// Writes what `office` prints over this input, standard output before standard error, and gives its status.
-pub fn say_line(rt: &HostRuntime, line: &str, input: &[u8], said: &mut Vec<u8>) -> Result<u8> {
-    let words = words_of(rt.alloc(), line)?;
-    let mut errors = Counted::new(Vec::new(rt.alloc()));
+// Carries words out over this input, writes to standard output and to standard error, and gives the status. What a command
+// promises is carried by this proof alone.
+fn status_of(
+    rt: &HostRuntime,
+    words: &[String],
+    input: &[u8],
+    output: &mut Vec<u8>,
+    errors: &mut Vec<u8>,
+) -> u8 {
     let ended = run_here(
         rt,
         rt,
-        &words,
+        words,
         &mut Counted::new(input),
-        &mut Counted::new(&mut *said),
-        &mut errors,
+        &mut Counted::new(&mut *output),
+        &mut Counted::new(&mut *errors),
     );
-    said.extend_from_slice(&errors.into_inner())?;
-    Ok(ended.status)
+    ended.status
+}
+
+/// Writes what `office` prints over this input, standard output before standard error, and gives its status.
+pub fn say_line(rt: &HostRuntime, line: &str, input: &[u8], said: &mut Vec<u8>) -> Result<u8> {
+    let words = words_of(rt.alloc(), line)?;
+    let mut errors = Vec::new(rt.alloc());
+    let status = status_of(rt, &words, input, said, &mut errors);
+    said.extend_from_slice(&errors)?;
+    Ok(status)
 }

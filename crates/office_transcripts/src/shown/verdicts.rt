@@ -28,9 +28,9 @@ enum Way {
 impl Way {
     fn name(self) -> &'static str {
         match self {
-            Way::Trial => "verdicts at the trial desk",
-            Way::Desk => "verdicts at a desk with a journal",
-            Way::Http => "verdicts over HTTP",
+            Way::Trial => "verdicts.console at the trial desk",
+            Way::Desk => "verdicts.console at a desk with a journal",
+            Way::Http => "verdicts.console over HTTP",
         }
     }
 

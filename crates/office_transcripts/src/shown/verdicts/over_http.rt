@@ -1,15 +1,13 @@
 //! Conversations over HTTP.
 
 use crate::shown::bytes::push_response;
-use crate::shown::exchanges::{found_office, lines_of};
+use crate::shown::memory_office::MemoryOffice;
 use crate::shown::place::Place;
 use crate::shown::verdicts::asked::Asked;
 use crate::shown::verdicts::conversation::Conversation;
 use crate::shown::verdicts::messages::{message_of, response_of};
 use anyhow::Result;
 use http_requests::OfficeRouter;
-use office_desk::Office;
-use sqlite::MemStore;
 use std::alloc::Global;
 use std::iter::zip;
 
@@ -25,7 +23,7 @@ fn wanted(alloc: Global, request: &str, answer: &str) -> Result<String> {
 fn ask_one(
     rt: &HostRuntime,
     place: &mut Place,
-    office: &mut Office<MemStore>,
+    office: &mut MemoryOffice,
     router: &OfficeRouter,
     request: &str,
     answer: &str,
@@ -36,7 +34,7 @@ fn ask_one(
         println!(rt; "not asked over HTTP: {request}")?;
         return Ok(());
     };
-    let told = lines_of(rt.alloc(), office, router, message.as_bytes())?;
+    let told = office.lines_to(rt.alloc(), router, message.as_bytes())?;
     let told = String::from_utf8_lossy(rt.alloc(), &told)?;
     asked.add(told.as_str(), "< HTTP/1.1 200 ", "< HTTP/1.1 403 ");
     let shown = wanted(rt.alloc(), request, answer)?;
@@ -47,7 +45,7 @@ fn ask_one(
 fn ask_each(
     rt: &HostRuntime,
     place: &mut Place,
-    office: &mut Office<MemStore>,
+    office: &mut MemoryOffice,
     router: &OfficeRouter,
     conversation: &Conversation,
     asked: &mut Asked,
@@ -69,6 +67,6 @@ pub fn ask_over_http(
     asked: &mut Asked,
 ) -> Result<()> {
     let router = OfficeRouter::new(rt.alloc())?;
-    let mut office = found_office(rt.alloc())?;
+    let mut office = MemoryOffice::new(rt.alloc())?;
     ask_each(rt, place, &mut office, &router, conversation, asked)
 }
