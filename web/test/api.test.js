@@ -2,6 +2,7 @@ import assert from 'node:assert/strict';
 import test from 'node:test';
 import { asker, eachOf, sha256 } from '../api.js';
 import { Known } from '../known.js';
+import { NEEDED } from '../words.js';
 
 const response = (status, body, fields = {}) => new Response(body, { status, headers: fields });
 const ABOUT = { team: 'blue', profile: 'web', revision: 3 };
@@ -20,11 +21,13 @@ function over(answers, more = {}) {
 }
 
 test('each kind has its method and target', async () => {
+  /** @type {Record<string, string>} */
   const kinds = { enrol: 'POST /users', submit: 'POST /p/blue/web', list: 'GET /p/blue', show: 'GET /p/blue/web/3',
-    sheet: 'GET /p/blue/web/3/sheet', vote: 'POST /p/blue/web/3/vote', issue: 'POST /p/blue/web/3/issue',
-    withdraw: 'POST /p/blue/web/3/withdraw', adopt: 'POST /p/blue/web/3/adopt', fetch: 'GET /issued/blue/web',
+    sheet: 'GET /p/blue/web/3/sheet', vote: 'POST /p/blue/web/3/vote', fetch: 'GET /issued/blue/web',
     hold: 'POST /hold/blue/web', release: 'POST /release/blue/web', me: 'GET /me', revisions: 'GET /p/blue/web',
     issued: 'GET /issued/blue/web/digest' };
+  // the others are acts on a revision, which are asked by their words
+  for (const act of NEEDED.flatMap(([, asked]) => asked)) kinds[act] ??= `POST /p/blue/web/3/${act}`;
   const { ask, asked } = over(Object.keys(kinds).map(() => response(200, '{"answer":"done"}')));
   for (const kind of Object.keys(kinds)) assert.equal((await ask(kind, ABOUT)).done, true);
   assert.deepEqual(asked, Object.values(kinds).map((one) => `${one} Bearer t`));

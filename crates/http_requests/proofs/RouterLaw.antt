@@ -127,10 +127,7 @@ forms_rest = (refl, refl)
 
 forms_are : (m : List ℕ) → lookup m office_forms ≡ lookup m (rows shapes)
 unfolding matchit_on_literals office_rows office_forms
-forms_are m =
-    same_rows office_forms (rows shapes) m
-    (refl, (refl, (refl, (refl, (refl, (refl, (refl, (refl, (refl, (refl, (refl, (refl, (refl, (refl, tt))))))))))))))
-    (refl, (refl, (refl, (refl, (refl, (refl, (refl, (refl, (refl, (refl, (refl, (refl, (refl, (refl, tt))))))))))))))
+forms_are m = same_rows office_forms (rows shapes) m refl refl
 
 no_path : seek 0 office_forms [] ≡ None
 unfolding matchit_on_literals office_rows office_forms

@@ -6,7 +6,7 @@ use Rattle.review_policy.specs.Acts.{profile_act_word, revision_act_word}
 use Rattle.review_policy.specs.declared.act.ProfileAct.{ProfileAct}
 use Rattle.review_policy.specs.declared.act.ProfileAct.TheVariants.{Hold, Release}
 use Rattle.review_policy.specs.declared.act.RevisionAct.{RevisionAct}
-use Rattle.review_policy.specs.declared.act.RevisionAct.TheVariants.{Issue, Withdraw, Adopt}
+use Rattle.review_policy.specs.declared.act.RevisionAct.TheVariants.{Issue}
 use Rattle.journal.specs.Read.{acted_on_profile_at, acted_on_revision_at, line_at}
 
 -- ---- acts on revisions
@@ -14,18 +14,15 @@ use Rattle.journal.specs.Read.{acted_on_profile_at, acted_on_revision_at, line_a
 -- what has its word is read as its line
 pub revision_act_back : (act : RevisionAct) (d : Data) → line_at (revision_act_word act) d ≡ acted_on_revision_at act d
 revision_act_back Issue d = refl
-revision_act_back Withdraw d = refl
-revision_act_back Adopt d = refl
+revision_act_back _ d = refl
 
 pub revision_act_ascii : (act : RevisionAct) → are_ascii (revision_act_word act) ≡ true
 revision_act_ascii Issue = refl
-revision_act_ascii Withdraw = refl
-revision_act_ascii Adopt = refl
+revision_act_ascii _ = refl
 
 pub revision_act_room : (act : RevisionAct) → length (revision_act_word act) ≤ 8
 revision_act_room Issue = lit≤ tt
-revision_act_room Withdraw = lit≤ tt
-revision_act_room Adopt = lit≤ tt
+revision_act_room _ = lit≤ tt
 
 -- ---- acts on profiles
 

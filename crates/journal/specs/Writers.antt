@@ -2,8 +2,9 @@
 -- are those of a history.
 use Rattle.std.specs.Prelude.{[], ◌∷◌, Box, Option, Some, None, option_map}
 use Rattle.std.specs.declared.alloc.Global.{Global}
-use Rattle.review_policy.specs.declared.act.RevisionAct.{RevisionAct}
-use Rattle.review_policy.specs.declared.act.RevisionAct.TheVariants.{Issue, Withdraw, Adopt}
+use Rattle.review_policy.specs.declared.act.Effect.{Effect}
+use Rattle.review_policy.specs.declared.act.Effect.TheVariants.{Issues, Withdraws, Adopts}
+use Rattle.review_policy.specs.Acts.{effect_of}
 use Rattle.office_tables.specs.Tables.{Tables}
 use Rattle.office_policy.specs.Happened.{event_meant}
 use Rattle.office_policy.specs.History.{Event, History, founded, enrolled, submitted, voted}
@@ -27,11 +28,11 @@ abbrev pub no_writers : Writers
 no_writers =
     record { users = None; revisions = None; votes = None; baselines = None; holds = None }
 
--- the table that an act on a revision writes to
-abbrev pub table_of_act : RevisionAct → Table
-table_of_act Issue = Revisions
-table_of_act Withdraw = Revisions
-table_of_act Adopt = Baselines
+-- the table that the effect of an act on a revision is written to
+abbrev pub table_of_effect : Effect → Table
+table_of_effect Issues = Revisions
+table_of_effect Withdraws = Revisions
+table_of_effect Adopts = Baselines
 
 -- the table that an event writes to
 abbrev pub table_of : Event → Table
@@ -39,7 +40,7 @@ table_of (founded name team digest listed) = Users
 table_of (enrolled caller name team roles digest) = Users
 table_of (submitted caller p text) = Revisions
 table_of (voted caller p n digest approves) = Votes
-table_of (on_revision caller act p n) = table_of_act act
+table_of (on_revision caller act p n) = table_of_effect (effect_of act)
 table_of (on_profile caller act p) = Holds
 
 -- An event comes behind these, that writes to this table. What a vote shows depends on its voter's

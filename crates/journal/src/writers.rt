@@ -3,11 +3,11 @@
 ghost use Rattle.std.specs.Prelude.{◌≡◌, ℕ, IfOk, List};
 ghost use Rattle.office_policy.specs.Happened.{event_meant};
 ghost use Rattle.office_policy.specs.History.{did};
-ghost use Rattle.journal.specs.Writers.{no_writers, table_of, table_of_act, with_writer};
+ghost use Rattle.journal.specs.Writers.{no_writers, table_of, table_of_effect, with_writer};
 ghost use Rattle.journal.specs.Writers.{writers_meant};
 
 use office_policy::{Deed, Event};
-use review_policy::RevisionAct;
+use review_policy::Effect;
 use std::alloc::{AllocError, Global};
 
 // A table of an office.
@@ -20,13 +20,13 @@ enum Table {
     Holds,
 }
 
-// The table that an act on a revision writes to.
-fn table_of_act(act: RevisionAct) -> Table
-    ensures { result ≡ table_of_act act }
+// The table that the effect of an act on a revision is written to.
+fn table_of_effect(effect: Effect) -> Table
+    ensures { result ≡ table_of_effect effect }
 {
-    match act {
-        RevisionAct::Issue | RevisionAct::Withdraw => Table::Revisions,
-        RevisionAct::Adopt => Table::Baselines,
+    match effect {
+        Effect::Issues | Effect::Withdraws => Table::Revisions,
+        Effect::Adopts => Table::Baselines,
     }
 }
 
@@ -38,7 +38,7 @@ fn table_of_deed(deed: &Deed) -> Table
         Deed::Enrol { .. } => Table::Users,
         Deed::Submit { .. } => Table::Revisions,
         Deed::Vote { .. } => Table::Votes,
-        Deed::ActOnRevision { act, .. } => table_of_act(*act),
+        Deed::ActOnRevision { act, .. } => table_of_effect(act.effect()),
         Deed::ActOnProfile { .. } => Table::Holds,
     }
 }

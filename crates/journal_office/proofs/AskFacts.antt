@@ -5,7 +5,7 @@ use Rattle.std.specs.declared.alloc.Global.{Global}
 use Rattle.review_policy.specs.declared.fault.Fault.{Fault}
 use Rattle.review_policy.specs.declared.fault.Fault.TheVariants as faults
 use Rattle.office_tables.specs.Tables.{Tables}
-use Rattle.office_policy.specs.History.{Event, founded, enrolled, submitted, voted, issued, withdrawn, adopted, on_profile}
+use Rattle.office_policy.specs.History.{Event}
 use Rattle.office_policy.specs.Handled.{HasRisen}
 use Rattle.office_policy.specs.Judging.{LeavesAll}
 use Rattle.office_policy.specs.Meaning.{Meaning, no_entry}
@@ -16,36 +16,13 @@ use Rattle.office_policy.proofs.SurvivalFacts.{closes_by_fault, survives_on}
 use Rattle.office_desk.specs.Looking.{IsMetBetween}
 use Rattle.journal.specs.Kept.{with_stood}
 use Rattle.journal.specs.declared.writers.Writers.{Writers as TheWriters}
-use Rattle.journal.specs.Writers.{ShowsIf, ShowsOne, ShowsWriters, Writers, boxed_meant, with_writer, writers_meant}
+use Rattle.journal.proofs.WriterFacts.{put_shown, writer_shown}
+use Rattle.journal.specs.Writers.{ShowsIf, ShowsOne, ShowsWriters, Writers, boxed_meant, writers_meant}
 use Rattle.journal_office.specs.declared.mending.Last.{Last}
 use Rattle.journal_office.specs.declared.mending.Last.TheVariants as last
 use Rattle.journal_office.specs.declared.not_reopened.NotReopened.{NotReopened}
 use Rattle.journal_office.specs.declared.not_reopened.NotReopened.TheVariants.{Unsealed, NotALine, Changed, OtherJournal, Office, Log, NoMemory}
 use Rattle.journal_office.specs.Mending.{Asks, Holds, IsLastOf, IsMet, LooksAt, LooksFor, Stays}
-
--- ---- writers
-
--- an event that is shown can be one more
-put_shown : (t : Tables) (e : Event) (w : Writers) → ShowsWriters t w → Shows t e → ShowsWriters t (with_writer e w)
-put_shown t (founded n m d l) w all shows = record { users = shows; revisions = all.revisions; votes = tt; baselines = all.baselines; holds = all.holds }
-put_shown t (enrolled c n m r d) w all shows = record { users = shows; revisions = all.revisions; votes = tt; baselines = all.baselines; holds = all.holds }
-put_shown t (submitted c p x) w all shows = record { users = all.users; revisions = shows; votes = all.votes; baselines = all.baselines; holds = all.holds }
-put_shown t (voted c p n d a) w all shows = record { users = all.users; revisions = all.revisions; votes = shows; baselines = all.baselines; holds = all.holds }
-put_shown t (issued c p n) w all shows = record { users = all.users; revisions = shows; votes = all.votes; baselines = all.baselines; holds = all.holds }
-put_shown t (withdrawn c p n) w all shows = record { users = all.users; revisions = shows; votes = all.votes; baselines = all.baselines; holds = all.holds }
-put_shown t (adopted c p n) w all shows = record { users = all.users; revisions = all.revisions; votes = all.votes; baselines = shows; holds = all.holds }
-put_shown t (on_profile c act p) w all shows = record { users = all.users; revisions = all.revisions; votes = all.votes; baselines = all.baselines; holds = shows }
-
--- and where all are shown it is
-writer_shown : (t : Tables) (e : Event) (w : Writers) → ShowsWriters t (with_writer e w) → Shows t e
-writer_shown t (founded n m d l) w all = all.users
-writer_shown t (enrolled c n m r d) w all = all.users
-writer_shown t (submitted c p x) w all = all.revisions
-writer_shown t (voted c p n d a) w all = all.votes
-writer_shown t (issued c p n) w all = all.revisions
-writer_shown t (withdrawn c p n) w all = all.revisions
-writer_shown t (adopted c p n) w all = all.baselines
-writer_shown t (on_profile c act p) w all = all.holds
 
 -- ---- one question after another
 

@@ -3,6 +3,8 @@
 ghost use Rattle.std.specs.Prelude.{◌≡◌, ◌++◌, ◌∷◌, [], ℕ, List, Option, None, IfOk, IfErr, true};
 ghost use Rattle.std.specs.Prelude.{false};
 ghost use Rattle.sqlite.specs.Held.{state};
+ghost use Rattle.review_policy.specs.Acts.{is_effect};
+ghost use Rattle.review_policy.specs.declared.act.Effect.TheVariants as effects;
 ghost use Rattle.office_store.specs.Shown.{IsIdle};
 ghost use Rattle.office_tables.specs.Tables.{is_profile};
 ghost use Rattle.office_policy.specs.Happened.{event_meant};
@@ -25,7 +27,7 @@ use journal::Placed;
 use journal_office::{Refused, Replay};
 use office_desk::Office;
 use office_policy::{Deed, Event};
-use review_policy::{ProfileName, RevisionAct, Text};
+use review_policy::{Effect, ProfileName, Text};
 use sqlite::{Alter, Connection};
 use std::alloc::{AllocError, Global};
 use std::io::BufRead;
@@ -37,16 +39,23 @@ fn is_profile(name: &ProfileName, other: &ProfileName) -> bool
     name.team.is(&other.team) && name.profile.is(&other.profile)
 }
 
+// Whether an effect is that its revision is issued.
+fn is_issue(effect: Effect) -> bool
+    ensures { result ≡ is_effect effect effects.Issues }
+{
+    matches!(effect, Effect::Issues)
+}
+
 // Whether the deed is the issue of the revision.
 fn issues_by(deed: &Deed, name: &ProfileName, number: u32) -> bool
     ensures { (caller : List ℕ) → result ≡ issues name.now number (did caller deed.now) }
 {
     match deed {
         Deed::ActOnRevision {
-            act: RevisionAct::Issue,
-            name: issued,
+            act,
+            name: other,
             revision,
-        } => is_profile(name, issued) && number == *revision,
+        } => is_issue(act.effect()) && is_profile(name, other) && number == *revision,
         _ => false,
     }
 }

@@ -3,7 +3,7 @@ use Rattle.std.proofs.Common.{◌≡◌, ℕ, List, Some, refl}
 use Rattle.std.specs.Prelude.{IfSome}
 use Rattle.review_policy.specs.declared.act.ProfileAct.TheVariants.{Hold, Release}
 use Rattle.review_policy.specs.declared.act.ProfileView.TheVariants.{Fetch, Issued}
-use Rattle.review_policy.specs.declared.act.RevisionAct.TheVariants.{Issue, Withdraw, Adopt}
+use Rattle.review_policy.specs.declared.act.RevisionAct.TheVariants.{Issue}
 use Rattle.review_policy.specs.declared.act.RevisionView.TheVariants.{Show, Sheet}
 use Rattle.review_policy.proofs.WordFacts.{found_by_word}
 use Rattle.json_requests.specs.Kinds.{Kind, all_kinds, kind_of, kind_word}
@@ -19,8 +19,7 @@ each_found kinds.enrol = refl
 each_found kinds.submit = refl
 each_found kinds.vote = refl
 each_found (kinds.act_on_revision Issue) = refl
-each_found (kinds.act_on_revision Withdraw) = refl
-each_found (kinds.act_on_revision Adopt) = refl
+each_found (kinds.act_on_revision _) = refl
 each_found (kinds.see_revision Show) = refl
 each_found (kinds.see_revision Sheet) = refl
 each_found kinds.list = refl

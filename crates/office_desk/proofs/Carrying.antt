@@ -5,12 +5,14 @@ use Rattle.sqlite.specs.Held.{Held, state}
 use Rattle.sqlite.specs.State.{HasCleanDisk}
 use Rattle.sqlite.specs.Store.{Ghosts}
 use Rattle.sqlite_trees.specs.Tree.{Trees}
+use Rattle.review_policy.specs.declared.act.Effect.{Effect}
+use Rattle.review_policy.specs.declared.act.Effect.TheVariants.{Issues, Withdraws, Adopts}
 use Rattle.review_policy.specs.declared.act.ProfileAct.TheVariants.{Hold, Release}
-use Rattle.review_policy.specs.declared.act.RevisionAct.TheVariants.{Issue, Withdraw, Adopt}
 use Rattle.review_policy.specs.declared.ask.ProfileName.{ProfileName}
 use Rattle.review_policy.specs.declared.ask.Request.{Request}
 use Rattle.review_policy.specs.declared.answer.Answer.TheVariants.{Done, Fault}
 use Rattle.review_policy.specs.declared.role.Role.TheVariants.{Security}
+use Rattle.review_policy.specs.Acts.{effect_of}
 use Rattle.review_policy.specs.Role.{has_role}
 use Rattle.profile_text.specs.Digest.{digest_of}
 use Rattle.review_policy.specs.declared.fault.Fault.{Fault as TheFault}
@@ -30,7 +32,7 @@ use Rattle.office_store.proofs.Refusals.{stops_for}
 use Rattle.office_policy.specs.declared.change.Change.{Change}
 use Rattle.office_policy.specs.declared.change.Change.TheVariants as changes
 use Rattle.office_policy.specs.declared.judge.Allowed.{Allowed}
-use Rattle.office_policy.specs.History.{Event, submitted, voted, issued, History}
+use Rattle.office_policy.specs.History.{Event, submitted, voted, on_revision, History}
 use Rattle.office_policy.specs.Users.{user_of}
 use Rattle.office_policy.specs.Revisions.{revision_count}
 use Rattle.office_policy.specs.Verdict.{Verdict, accepted, verdict}
@@ -41,13 +43,13 @@ use Rattle.office_policy.specs.Handled.{AreInPart, AreWithEvent, HasRisen, HasSt
 use Rattle.office_policy.specs.Happened.{event_by}
 use Rattle.office_policy.specs.Judging.{IsNext, IsPermitted, LeavesAll, answer_in, event_for}
 use Rattle.office_policy.proofs.AskedFacts.{changing}
-use Rattle.office_policy.proofs.EventFacts.{enrolled_tables, submitted_tables, voted_tables, issued_tables, withdrawn_tables, adopted_tables, acted_tables}
+use Rattle.office_policy.proofs.EventFacts.{enrolled_tables, submitted_tables, voted_tables, acted_tables, tables_after, effect_tables}
 use Rattle.office_policy.proofs.HeadlineFacts.{given_out_approved}
-use Rattle.office_policy.proofs.LawFacts.{allowed_follows, lawful_apart}
+use Rattle.office_policy.proofs.LawFacts.{ActAllowed, act_follows, allowed_follows, lawful_apart}
 use Rattle.office_policy.proofs.Submissions.{next_free}
 use Rattle.office_policy.proofs.SurvivalFacts.{closes_without, or_more, survives_on}
 use Rattle.office_policy.proofs.UserFacts.{showing_is}
-use Rattle.office_desk.specs.Carries.{Asks, write_by, write_of}
+use Rattle.office_desk.specs.Carries.{Asks, write_by, write_of, write_on_revision}
 use Rattle.office_desk.specs.Offices.{IsOffice}
 use Rattle.office_desk.specs.Meant.{Keeps, meaning_over}
 use Rattle.office_desk.proofs.Handling.{caused, lawful_after, passing, was_open_by}
@@ -76,15 +78,20 @@ module _ (h : History) (lawful : IsLawfulHistory h) (allowed : Allowed) (known :
       subst (λ r. Adds p r (tables_of h) (tables_of (submitted allowed.caller.name p row.body ∷ h))) (sym is)
       (next_free h p, sym (submitted_tables h lawful allowed.caller.name p row.body))
 
+  -- the write of an effect makes the tables with it
+  effect_made : (effect : Effect) (p : ProfileName) (n : ℕ) → ActAllowed h effect p n → Makes (write_on_revision effect p n) (tables_of h) (tables_after h effect p n)
+  effect_made Issues p n may = sym (effect_tables h Issues p n may)
+  effect_made Withdraws p n may = sym (effect_tables h Withdraws p n may)
+  effect_made Adopts p n may = sym (effect_tables h Adopts p n may)
+
   -- the write of a change makes the tables with its event
   makes_of : (change : Change) → IsAllowed h (event_by allowed.caller.name change) → IsNext h allowed.caller.name change
       → MakesWith h (event_by allowed.caller.name change) (write_by allowed.caller change)
   makes_of (changes.Enrol user) may next = sym (enrolled_tables h allowed.caller.name user.name user.team user.roles user.digest)
   makes_of (changes.AddRevision p row) may next = revision_made p row next
   makes_of (changes.Vote p n digest approves) may next = vote_made p n digest approves
-  makes_of (changes.ActOnRevision Issue p n) may next = sym (issued_tables h allowed.caller.name p n (allowed_follows h (issued allowed.caller.name p n) may).still_open)
-  makes_of (changes.ActOnRevision Withdraw p n) may next = sym (withdrawn_tables h allowed.caller.name p n)
-  makes_of (changes.ActOnRevision Adopt p n) may next = sym (adopted_tables h allowed.caller.name p n)
+  makes_of (changes.ActOnRevision act p n) may next =
+      effect_made (effect_of act) p n (act_follows h allowed.caller.name act p n (allowed_follows h (on_revision allowed.caller.name act p n) may))
   makes_of (changes.ActOnProfile Hold p) may next = sym (acted_tables h allowed.caller.name Hold p)
   makes_of (changes.ActOnProfile Release p) may next = sym (acted_tables h allowed.caller.name Release p)
 

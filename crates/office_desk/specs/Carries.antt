@@ -2,12 +2,13 @@
 use Rattle.std.specs.Prelude.{ℕ, Result, ⊤}
 use Rattle.sqlite.specs.Held.{Held}
 use Rattle.sqlite.specs.Store.{Ghosts}
+use Rattle.review_policy.specs.declared.act.Effect.{Effect}
+use Rattle.review_policy.specs.declared.act.Effect.TheVariants.{Issues, Withdraws, Adopts}
 use Rattle.review_policy.specs.declared.act.ProfileAct.{ProfileAct}
 use Rattle.review_policy.specs.declared.act.ProfileAct.TheVariants.{Hold, Release}
-use Rattle.review_policy.specs.declared.act.RevisionAct.{RevisionAct}
-use Rattle.review_policy.specs.declared.act.RevisionAct.TheVariants.{Issue, Withdraw, Adopt}
 use Rattle.review_policy.specs.declared.ask.ProfileName.{ProfileName}
 use Rattle.review_policy.specs.declared.role.Role.TheVariants.{Security}
+use Rattle.review_policy.specs.Acts.{effect_of}
 use Rattle.review_policy.specs.Role.{has_role}
 use Rattle.review_policy.specs.declared.fault.Fault.{Fault}
 use Rattle.office_tables.specs.declared.row.UserRow.{UserRow}
@@ -20,11 +21,11 @@ use Rattle.office_policy.specs.declared.change.Change.{Change}
 use Rattle.office_policy.specs.declared.change.Change.TheVariants as changes
 use Rattle.office_policy.specs.declared.judge.Allowed.{Allowed}
 
--- the write of what is done to a revision
-abbrev pub write_on_revision : RevisionAct → ProfileName → ℕ → Write
-write_on_revision Issue p n = issues p n
-write_on_revision Withdraw p n = withdraws p n
-write_on_revision Adopt p n = puts_baseline p n
+-- the write of an effect on a revision
+abbrev pub write_on_revision : Effect → ProfileName → ℕ → Write
+write_on_revision Issues p n = issues p n
+write_on_revision Withdraws p n = withdraws p n
+write_on_revision Adopts p n = puts_baseline p n
 
 -- the write of what is done to a profile
 abbrev pub write_on_profile : ProfileAct → ProfileName → Write
@@ -37,7 +38,7 @@ write_by caller (changes.Enrol user) = puts_user user
 write_by caller (changes.AddRevision p row) = adds_revision p row
 write_by caller (changes.Vote p n digest approves) =
     puts_vote (vote_entry p n caller.name approves (has_role caller.roles Security))
-write_by caller (changes.ActOnRevision act p n) = write_on_revision act p n
+write_by caller (changes.ActOnRevision act p n) = write_on_revision (effect_of act) p n
 write_by caller (changes.ActOnProfile act p) = write_on_profile act p
 
 -- the write of what was allowed

@@ -13,7 +13,7 @@ use office_store::{
     set_withdrawn,
 };
 use office_tables::{RevisionRow, UserRow};
-use review_policy::{Fault, ProfileAct, ProfileName, RevisionAct, Role};
+use review_policy::{Effect, Fault, ProfileAct, ProfileName, Role};
 use sqlite::{Alter, Connection};
 
 // Enrols a user, or gives an enrolled one these roles and this token.
@@ -59,20 +59,20 @@ fn write_vote<S: Alter>(
     )
 }
 
-// Does this to a revision.
+// Writes the effect of an act on a revision.
 fn write_on_revision<S: Alter>(
     conn: &mut Connection<S>,
-    act: RevisionAct,
+    effect: Effect,
     name: &ProfileName,
     number: u32,
 ) -> Result<(), Fault>
     requires { IsIdle (state S.Store conn.old) }
-    ensures { Asks S.Store (write_on_revision act name.now number) conn.old conn.new result }
+    ensures { Asks S.Store (write_on_revision effect name.now number) conn.old conn.new result }
 {
-    match act {
-        RevisionAct::Issue => set_issued(conn, name, number),
-        RevisionAct::Withdraw => set_withdrawn(conn, name, number),
-        RevisionAct::Adopt => put_baseline(conn, name, number),
+    match effect {
+        Effect::Issues => set_issued(conn, name, number),
+        Effect::Withdraws => set_withdrawn(conn, name, number),
+        Effect::Adopts => put_baseline(conn, name, number),
     }
 }
 
@@ -109,7 +109,7 @@ pub(crate) fn carry_out<S: Alter>(conn: &mut Connection<S>, allowed: &Allowed) -
             act,
             name,
             revision,
-        } => write_on_revision(conn, *act, name, *revision),
+        } => write_on_revision(conn, act.effect(), name, *revision),
         Change::ActOnProfile { act, name } => write_on_profile(conn, *act, name),
     }
 }

@@ -11,7 +11,7 @@ ghost use Rattle.office_store.specs.Shown.{IsIdle};
 ghost use Rattle.office_policy.specs.Happened.{event_meant};
 ghost use Rattle.office_policy.specs.History.{did, founded};
 ghost use Rattle.office_policy.specs.Revisions.{state_in};
-ghost use Rattle.office_policy.specs.ShowsEvent.{HasUser, LastIsOpen, Shows, ShowsAct};
+ghost use Rattle.office_policy.specs.ShowsEvent.{HasUser, LastIsOpen, Shows, ShowsEffect};
 ghost use Rattle.office_policy.specs.Users.{registrar_alone};
 ghost use Rattle.office_judging.specs.Summarized.{as_asked};
 ghost use Rattle.office_desk.specs.Looking.{IsOpenBy};
@@ -24,7 +24,7 @@ use office_store::{
     Adopted, Ballot, Summary, ballot_of, baseline, is_held, last, summary_at, user_by_name,
 };
 use office_tables::{RevisionRow, UserRow};
-use review_policy::{Fault, ProfileName, RevisionAct, Role, Roles, State, Text, Word};
+use review_policy::{Effect, Fault, ProfileName, Role, Roles, State, Text, Word};
 use sqlite::{Alter, Connection};
 use std::alloc::Global;
 
@@ -235,22 +235,22 @@ fn shows_hold<S: Alter>(
     Ok(is_held(conn, name)? == asked)
 }
 
-// Whether the tables show what was done to a revision.
-fn shows_act<S: Alter>(
+// Whether the tables show the effect of an act on a revision.
+fn shows_effect<S: Alter>(
     alloc: Global,
     conn: &mut Connection<S>,
-    act: RevisionAct,
+    effect: Effect,
     name: &ProfileName,
     number: u32,
 ) -> Result<bool, Fault>
     requires { IsIdle (state S.Store conn.old) }
     ensures { Reads S.Store conn.old conn.new result (λ t shown.
-        shown ≡ true ↔ ShowsAct t act name.now number) }
+        shown ≡ true ↔ ShowsEffect t effect name.now number) }
 {
-    match act {
-        RevisionAct::Issue => shows_state(conn, name, number, State::Issued),
-        RevisionAct::Withdraw => shows_state(conn, name, number, State::Withdrawn),
-        RevisionAct::Adopt => shows_baseline(alloc, conn, name, number),
+    match effect {
+        Effect::Issues => shows_state(conn, name, number, State::Issued),
+        Effect::Withdraws => shows_state(conn, name, number, State::Withdrawn),
+        Effect::Adopts => shows_baseline(alloc, conn, name, number),
     }
 }
 
@@ -283,7 +283,7 @@ fn shows_deed<S: Alter>(
             act,
             name,
             revision,
-        } => shows_act(alloc, conn, *act, name, *revision),
+        } => shows_effect(alloc, conn, act.effect(), name, *revision),
         Deed::ActOnProfile { act, name } => shows_hold(conn, name, act.holds()),
     }
 }

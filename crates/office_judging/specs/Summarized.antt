@@ -1,4 +1,4 @@
--- Revisions without their texts, as the rules of votes, withdrawals and adoptions ask of them.
+-- Revisions without their texts, as those rules ask of them that look at states and digests alone.
 use Rattle.std.specs.Prelude.{[], Option, option_map}
 use Rattle.office_tables.specs.declared.row.RevisionRow.{RevisionRow}
 use Rattle.office_store.specs.declared.summaries.Summary.{Summary}

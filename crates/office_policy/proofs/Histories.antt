@@ -3,12 +3,14 @@ use Rattle.std.proofs.Common.{◌≡◌, ◌≢◌, ◌∙◌, ◌<◌, ◌==◌
 use Rattle.std.specs.Prelude.{is_some, option_map, nat_lt, bytes_eq}
 use Rattle.std.specs.List.{list_any}
 use Rattle.std.proofs.lemmas.Bool.{ne_eqb, lt-ltb}
+use Rattle.review_policy.specs.declared.act.Effect.TheVariants.{Issues}
 use Rattle.review_policy.specs.declared.ask.ProfileName.{ProfileName}
 use Rattle.review_policy.specs.declared.revision.State.TheVariants.{Open}
+use Rattle.review_policy.specs.Acts.{has_effect}
 use Rattle.review_policy.specs.Rules.{is_issued}
 use Rattle.office_tables.specs.declared.row.UserRow.{UserRow}
 use Rattle.office_tables.specs.Tables.{is_profile}
-use Rattle.office_policy.specs.History.{Event, founded, enrolled, submitted, issued, History}
+use Rattle.office_policy.specs.History.{Event, founded, enrolled, submitted, on_revision, History}
 use Rattle.office_policy.specs.Users.{user_of}
 use Rattle.office_policy.specs.Revisions.{Submission, issues, withdraws, is_replaced, revision_count, submission_of, revision_of, state_in, last_issue}
 use Rattle.office_policy.specs.Facts.{is_elsewhere}
@@ -99,7 +101,7 @@ open_last h p n r is is_open = by_submission (submission_of h p n) refl is
 -- the newest issue names a revision that was issued and not since replaced
 newest_issue : (h : History) (p : ProfileName) (n : ℕ) → list_any (issues p n) h ≡ true → is_replaced h p n ≡ false → last_issue h p ≡ Some n
 newest_issue [] p n was last = absurd (cc)
-newest_issue (issued c q m ∷ h) p n was last = by_issue (is_profile p q) (n == m) (list_any (issues p n) h) (is_replaced h p n) (newest_issue h p n) refl was last
+newest_issue (on_revision c act q m ∷ h) p n was last = by_issue (has_effect act Issues && is_profile p q) (n == m) (list_any (issues p n) h) (is_replaced h p n) (newest_issue h p n) refl was last
   where
     by_issue : (b x a r : Bool) → (a ≡ true → r ≡ false → last_issue h p ≡ Some n) → (n == m) ≡ x → ((b && x) || a) ≡ true → ((b && a) || r) ≡ false → cond b (Some m) (last_issue h p) ≡ Some n
     by_issue true x true r before named was last = absurd (cc)

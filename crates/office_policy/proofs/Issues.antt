@@ -4,15 +4,16 @@ use Rattle.std.specs.Prelude.{option_map, nat_lt}
 use Rattle.std.specs.List.{list_any}
 use Rattle.std.proofs.lemmas.Bool.{or_parts}
 use Rattle.profile_text.specs.Digest.{digest_of}
+use Rattle.review_policy.specs.declared.act.Effect.TheVariants.{Issues}
 use Rattle.review_policy.specs.declared.ask.ProfileName.{ProfileName}
 use Rattle.review_policy.specs.declared.revision.State.TheVariants.{Issued}
 use Rattle.review_policy.specs.Rules.{is_open}
 use Rattle.office_tables.specs.declared.row.RevisionRow.{RevisionRow}
 use Rattle.office_tables.specs.Tables.{is_profile}
 use Rattle.office_tables.specs.Changes.{in_state, after_issue}
-use Rattle.office_policy.specs.History.{issued, History}
+use Rattle.office_policy.specs.History.{History}
 use Rattle.office_policy.specs.Revisions.{Submission, issues_profile, issues, withdraws, is_replaced, revision_count, submission_of, revision_of, state_in}
-use Rattle.office_policy.proofs.StateFacts.{same_profile, state_by, row_at}
+use Rattle.office_policy.proofs.StateFacts.{same_profile, state_by, row_after, row_at}
 
 -- one step after another on what may be there is both at once
 pub twice : {X Y Z : Type 0} (f : Y → Z) (g : X → Y) (k : X → Z) → ((x : X) → f (g x) ≡ k x) → (o : Option X) → option_map f (option_map g o) ≡ option_map k o
@@ -47,24 +48,9 @@ replaces false true false c n author text = refl
 replaces false false r true n author text = refl
 replaces false false r false n author text = refl
 
--- the row of a submission after an issue: whether that is of its profile, and of its number
-abbrev row_after : History → ProfileName → ℕ → (own this : Bool) → Submission → RevisionRow
-row_after h p n own this s = record {
-  number = n;
-  author = s.author;
-  state =
-      state_by
-      (list_any (withdraws p n) h)
-      ((own && this) || list_any (issues p n) h)
-      ((own && list_any (issues p n) h) || is_replaced h p n)
-      (nat_lt n (revision_count h p));
-  body = s.text;
-  digest = digest_of s.text;
-}
-
 -- an open revision that is issued
 now_issued : (h : History) (p : ProfileName) (n : ℕ) (s : Option Submission) → is_open (state_in (option_map (row_at h p n (revision_count h p)) s)) ≡ true
-    → option_map (in_state Issued) (option_map (row_at h p n (revision_count h p)) s) ≡ option_map (row_after h p n true true) s
+    → option_map (in_state Issued) (option_map (row_at h p n (revision_count h p)) s) ≡ option_map (row_after h p n Issues true true) s
 now_issued h p n None still_open = refl
 now_issued h p n (Some s) still_open =
     let parts = open_by (list_any (withdraws p n) h) (list_any (issues p n) h) (is_replaced h p n) (nat_lt n (revision_count h p)) still_open in
@@ -72,29 +58,29 @@ now_issued h p n (Some s) still_open =
 
 -- the other revisions of the profile
 others_issued : (h : History) (p : ProfileName) (n : ℕ)
-    → option_map after_issue (revision_of h p n) ≡ option_map (row_after h p n true false) (submission_of h p n)
+    → option_map after_issue (revision_of h p n) ≡ option_map (row_after h p n Issues true false) (submission_of h p n)
 others_issued h p n =
-    twice after_issue (row_at h p n (revision_count h p)) (row_after h p n true false)
+    twice after_issue (row_at h p n (revision_count h p)) (row_after h p n Issues true false)
     (λ s. replaces (list_any (withdraws p n) h) (list_any (issues p n) h) (is_replaced h p n) (nat_lt n (revision_count h p)) n s.author s.text)
     (submission_of h p n)
 
 -- the revisions after an issue of an open one
-pub issued_rows : (h : History) (c : List ℕ) (p : ProfileName) (n : ℕ) → is_open (state_in (revision_of h p n)) ≡ true → (q : ProfileName) (k : ℕ)
+pub issued_rows : (h : History) (p : ProfileName) (n : ℕ) → is_open (state_in (revision_of h p n)) ≡ true → (q : ProfileName) (k : ℕ)
     → cond (is_profile q p) (cond (k == n) (option_map (in_state Issued) (revision_of h q k)) (option_map after_issue (revision_of h q k))) (revision_of h q k)
-    ≡ revision_of (issued c p n ∷ h) q k
-issued_rows h c p n still_open q k =
+    ≡ option_map (row_after h q k Issues (is_profile q p) (k == n)) (submission_of h q k)
+issued_rows h p n still_open q k =
     elim (is_profile q p) as (λ b. is_profile q p ≡ b
     → cond b (cond (k == n) (option_map (in_state Issued) (revision_of h q k)) (option_map after_issue (revision_of h q k))) (revision_of h q k)
-    ≡ option_map (row_after h q k b (k == n)) (submission_of h q k)) [
+    ≡ option_map (row_after h q k Issues b (k == n)) (submission_of h q k)) [
       | true ↦ λ same. own (same_profile q p same)
       | false ↦ λ other. refl
     ] refl
   where
     own : q ≡ p → cond (k == n) (option_map (in_state Issued) (revision_of h q k)) (option_map after_issue (revision_of h q k))
-        ≡ option_map (row_after h q k true (k == n)) (submission_of h q k)
+        ≡ option_map (row_after h q k Issues true (k == n)) (submission_of h q k)
     own same =
         elim (k == n) as (λ b. (k == n) ≡ b → cond b (option_map (in_state Issued) (revision_of h q k)) (option_map after_issue (revision_of h q k))
-        ≡ option_map (row_after h q k true b) (submission_of h q k)) [
+        ≡ option_map (row_after h q k Issues true b) (submission_of h q k)) [
           | true ↦ λ this. now_issued h q k (submission_of h q k) (here (eqb-true k n this))
           | false ↦ λ other. others_issued h q k
         ] refl

@@ -1,7 +1,7 @@
 -- Each request is refused by a rule, or carried out.
 use Rattle.std.proofs.Common.{◌≡◌, ◌≢◌, ◌≤◌, ℕ, suc, List, [], ◌∷◌, Bool, true, false, Some, None, Option, Ok, Err, refl, ap, arith}
 use Rattle.std.specs.Prelude.{Result, is_none, is_err}
-use Rattle.review_policy.specs.declared.act.RevisionAct.TheVariants.{Issue, Withdraw, Adopt}
+use Rattle.review_policy.specs.declared.act.RevisionAct.TheVariants.{Issue}
 use Rattle.review_policy.specs.declared.ask.ProfileName.{ProfileName}
 use Rattle.review_policy.specs.declared.ask.Ask.{Ask}
 use Rattle.review_policy.specs.declared.ask.Ask.TheVariants as ask
@@ -71,8 +71,7 @@ allowed_done h caller (ask.Vote p n digest approve) none e = cc
 allowed_done h caller (ask.ActOnRevision Issue p n) none e =
     there_done (revision_of h p n) (λ r. accepted (reply.Issued r.digest) (Some (on_revision (name_of caller) Issue p n)))
     (with_state (revision_of h p n) (revision_there h caller Issue p n none)) (λ row same. cc) e
-allowed_done h caller (ask.ActOnRevision Withdraw p n) none e = cc
-allowed_done h caller (ask.ActOnRevision Adopt p n) none e = cc
+allowed_done h caller (ask.ActOnRevision _ p n) none e = cc
 allowed_done h caller (ask.SeeRevision view p n) none e =
     there_done (revision_of h p n) (λ r. accepted (seen_of h p view r) None)
     (none_refuses 1 (behind_caller (is_none caller) (read_rules (read_facts caller p.team (is_none (revision_of h p n))))) none).1.1.1.0 (λ row same. cc) e

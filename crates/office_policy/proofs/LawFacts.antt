@@ -1,6 +1,8 @@
 -- What a lawful history says of its events.
 use Rattle.std.proofs.Common.{◌≡◌, ◌∙◌, ◌&&◌, ◌==◌, ℕ, List, [], ◌∷◌, Bool, true, false, not, cond, Some, None, Option, Ok, Err, refl, sym, ap, subst}
 use Rattle.std.specs.Prelude.{Result, is_none, nat_lt, nat_le, bytes_eq}
+use Rattle.review_policy.specs.declared.act.Effect.{Effect}
+use Rattle.review_policy.specs.declared.act.Effect.TheVariants.{Issues, Withdraws, Adopts}
 use Rattle.review_policy.specs.declared.act.RevisionAct.{RevisionAct}
 use Rattle.review_policy.specs.declared.act.RevisionAct.TheVariants.{Issue, Withdraw, Adopt}
 use Rattle.review_policy.specs.declared.ask.ProfileName.{ProfileName}
@@ -9,8 +11,10 @@ use Rattle.review_policy.specs.declared.ask.Ask.TheVariants as ask
 use Rattle.review_policy.specs.declared.ask.Request.{Request}
 use Rattle.review_policy.specs.declared.answer.Reply.{Reply}
 use Rattle.review_policy.specs.declared.answer.Reply.TheVariants as reply
+use Rattle.review_policy.specs.declared.revision.State.{State}
 use Rattle.review_policy.specs.declared.role.Role.{Role}
 use Rattle.review_policy.specs.declared.role.Role.TheVariants.{Author, Reviewer, Security, Issuer}
+use Rattle.review_policy.specs.Acts.{effect_of}
 use Rattle.review_policy.specs.Rules.{max_revisions, approvals_of, asks_security, is_open, is_issued, is_standing, enrol_rules, submit_rules, vote_rules, issue_rules, withdraw_rules, adopt_rules, first_denial, behind_caller}
 use Rattle.profile_text.specs.declared.profile.Profile.{Profile}
 use Rattle.profile_text.specs.declared.fault.DocFault.{DocFault}
@@ -21,7 +25,7 @@ use Rattle.profile_text.proofs.ReadBack.{read_again}
 use Rattle.office_tables.specs.declared.row.UserRow.{UserRow}
 use Rattle.office_tables.specs.declared.row.RevisionRow.{RevisionRow}
 use Rattle.office_tables.specs.Lists.{holds_role}
-use Rattle.office_policy.specs.History.{Event, founded, enrolled, submitted, voted, issued, withdrawn, adopted, on_profile, History}
+use Rattle.office_policy.specs.History.{Event, founded, enrolled, submitted, voted, issued, withdrawn, adopted, on_revision, on_profile, History}
 use Rattle.office_policy.specs.Users.{user_of, user_showing, registrar_alone, name_of}
 use Rattle.office_policy.specs.Revisions.{revision_of, revision_count, last_revision, issued_revision, is_author, if_open, state_in}
 use Rattle.office_policy.specs.Votes.{tally_at}
@@ -89,6 +93,23 @@ Follows h (withdrawn c p n) = WithdrawAllowed h p n
 Follows h (adopted c p n) = AdoptAllowed h c p n
 Follows h (on_profile c act p) = Unit {0}
 
+-- the state in which an issue and a withdrawal find their revision
+abbrev pub IsFoundBy : Effect → Option State → Type 0
+IsFoundBy Issues state = is_open state ≡ true
+IsFoundBy Withdraws state = is_standing state ≡ true
+IsFoundBy Adopts state = Unit {0}
+
+-- an allowed act on a revision is on one that is there, in such a state
+pub record ActAllowed (h : History) (effect : Effect) (p : ProfileName) (n : ℕ) : Type 0 where
+  pub there : is_none (state_in (revision_of h p n)) ≡ false
+  pub found : IsFoundBy effect (state_in (revision_of h p n))
+
+-- whichever act it is
+pub act_follows : (h : History) (c : List ℕ) (act : RevisionAct) (p : ProfileName) (n : ℕ) → Follows h (on_revision c act p n) → ActAllowed h (effect_of act) p n
+act_follows h c Issue p n is = record { there = is.there; found = is.still_open }
+act_follows h c Withdraw p n is = record { there = is.there; found = is.standing }
+act_follows h c Adopt p n is = record { there = is.there; found = tt }
+
 abbrev pub FollowsIn : History → Verdict → Type 0
 FollowsIn h (accepted r None) = Unit {0}
 FollowsIn h (accepted r (Some e)) = Follows h e
@@ -111,8 +132,7 @@ of_user_by P (Some user) done none each = each user
 -- what holds of whatever an issue, a withdrawal or an adoption is told as, and of none
 pub done_to_by : (P : Verdict → Type 0) (r : Option RevisionRow) (act : RevisionAct) (e : Event) → P unreached → ((told : Reply) → P (accepted told (Some e))) → P (done_to r act e)
 done_to_by P r Issue e none each = of_revision_by P r (λ row. accepted (reply.Issued row.digest) (Some e)) none (λ row. each (reply.Issued row.digest))
-done_to_by P r Withdraw e none each = each reply.Nothing
-done_to_by P r Adopt e none each = each reply.Nothing
+done_to_by P r _ e none each = each reply.Nothing
 
 -- the revision is there to which something is done
 pub revision_there : (h : History) (caller : Option UserRow) (act : RevisionAct) (p : ProfileName) (n : ℕ)
@@ -211,18 +231,7 @@ IsDenied (denied d f) = Unit {0}
 
 -- who is no user is denied whatever is asked
 stranger_denied : (h : History) (a : Ask) → IsDenied (verdict_of h None a)
-stranger_denied h (ask.Enrol user team roles digest) = tt
-stranger_denied h (ask.Submit p document) = tt
-stranger_denied h (ask.Vote p n digest approve) = tt
-stranger_denied h (ask.ActOnRevision Issue p n) = tt
-stranger_denied h (ask.ActOnRevision Withdraw p n) = tt
-stranger_denied h (ask.ActOnRevision Adopt p n) = tt
-stranger_denied h (ask.SeeRevision view p n) = tt
-stranger_denied h (ask.List team) = tt
-stranger_denied h (ask.ActOnProfile act p) = tt
-stranger_denied h (ask.SeeProfile view p) = tt
-stranger_denied h ask.Me = tt
-stranger_denied h (ask.Revisions p before) = tt
+stranger_denied h a = tt
 
 -- the event of an accepted request is allowed, to the user that shows its token
 pub requested_allowed : (h : History) (e : Event) → IsRequested h e → IsAllowed h e

@@ -1,18 +1,20 @@
 -- Tables show the last event of a lawful history; and where they show an event that is allowed next, it changes nothing in them.
 use Rattle.std.proofs.Common.{◌≡◌, ◌∙◌, ◌<◌, ◌==◌, ◌&&◌, ◌⊎◌, inl, inr, ℕ, suc, List, [], ◌∷◌, Bool, true, false, cond, Some, None, Option, refl, sym, ap, subst, arith, eqb-true, eq-eqb, ne_eqb}
 use Rattle.std.specs.Prelude.{option_map, is_none, bytes_eq}
+use Rattle.review_policy.specs.declared.act.Effect.{Effect}
+use Rattle.review_policy.specs.declared.act.Effect.TheVariants.{Issues, Withdraws, Adopts}
 use Rattle.review_policy.specs.declared.ask.ProfileName.{ProfileName}
 use Rattle.review_policy.specs.declared.revision.State.{State}
 use Rattle.review_policy.specs.declared.revision.State.TheVariants.{Open, Issued, Withdrawn}
 use Rattle.review_policy.specs.declared.role.Role.TheVariants.{Security}
-use Rattle.review_policy.specs.Acts.{holds}
+use Rattle.review_policy.specs.Acts.{effect_of, holds}
 use Rattle.review_policy.specs.Rules.{is_open, is_standing}
 use Rattle.office_tables.specs.declared.row.UserRow.{UserRow}
 use Rattle.office_tables.specs.declared.row.RevisionRow.{RevisionRow}
 use Rattle.office_tables.specs.Tables.{Tables, Vote, Baseline, is_profile}
 use Rattle.office_tables.specs.Lists.{holds_role}
 use Rattle.office_tables.specs.Changes.{in_state, after_submission, after_issue, with_revision, with_issued, with_withdrawn}
-use Rattle.office_policy.specs.History.{Event, founded, enrolled, submitted, voted, issued, withdrawn, adopted, on_profile, History}
+use Rattle.office_policy.specs.History.{Event, founded, enrolled, submitted, voted, on_revision, on_profile, History}
 use Rattle.office_policy.specs.Users.{user_of}
 use Rattle.office_policy.specs.Revisions.{revision_of, revision_count, last_revision, if_open, state_in}
 use Rattle.office_policy.specs.Votes.{kept_vote, vote_of, kept_vote_of}
@@ -21,12 +23,12 @@ use Rattle.office_policy.specs.Baseline.{adoption_of}
 use Rattle.office_policy.specs.Facts.{is_text_of}
 use Rattle.office_policy.specs.Lawful.{IsLawfulHistory}
 use Rattle.office_policy.specs.TablesOf.{tables_of}
-use Rattle.office_policy.specs.ShowsEvent.{LastIsOpen, Shows}
+use Rattle.office_policy.specs.ShowsEvent.{LastIsOpen, Shows, ShowsEffect}
 use Rattle.office_policy.proofs.UserFacts.{same_bytes, bytes_same}
-use Rattle.office_policy.proofs.LawFacts.{Follows, SubmitAllowed, allowed_follows}
+use Rattle.office_policy.proofs.LawFacts.{ActAllowed, Follows, SubmitAllowed, act_follows, allowed_follows}
 use Rattle.office_policy.proofs.RevisionFacts.{none_above, last_is}
 use Rattle.office_policy.proofs.StateFacts.{both, same_profile, new_row, row_at}
-use Rattle.office_policy.proofs.EventFacts.{voted_tables, withdrawn_tables, issued_tables, submitted_tables}
+use Rattle.office_policy.proofs.EventFacts.{voted_tables, submitted_tables, with_effect, tables_after, effect_tables}
 
 -- ---- keys
 
@@ -81,27 +83,34 @@ state_put : (s : State) (r : Option RevisionRow) → is_none (state_in r) ≡ fa
 state_put s None there = absurd (cc)
 state_put s (Some row) there = refl
 
-issue_is_shown : (h : History) (c : List ℕ) (p : ProfileName) (n : ℕ) → is_none (state_in (revision_of h p n)) ≡ false → Shows (with_issued p n (tables_of h)) (issued c p n)
-issue_is_shown h c p n there = ap state_in here ∙ state_put Issued (revision_of h p n) there
+issue_is_shown : (h : History) (p : ProfileName) (n : ℕ) → is_none (state_in (revision_of h p n)) ≡ false → ShowsEffect (with_issued p n (tables_of h)) Issues p n
+issue_is_shown h p n there = ap state_in here ∙ state_put Issued (revision_of h p n) there
   where
     here : cond (is_profile p p) (cond (n == n) (option_map (in_state Issued) (revision_of h p n)) (option_map after_issue (revision_of h p n))) (revision_of h p n)
         ≡ option_map (in_state Issued) (revision_of h p n)
     here = put_at (is_profile p p) _ _ (profile_itself p) ∙ put_at (n == n) _ _ (eq-eqb n n refl)
 
-withdrawal_is_shown : (h : History) (c : List ℕ) (p : ProfileName) (n : ℕ) → is_none (state_in (revision_of h p n)) ≡ false → Shows (with_withdrawn p n (tables_of h)) (withdrawn c p n)
-withdrawal_is_shown h c p n there = ap state_in here ∙ state_put Withdrawn (revision_of h p n) there
+withdrawal_is_shown : (h : History) (p : ProfileName) (n : ℕ) → is_none (state_in (revision_of h p n)) ≡ false → ShowsEffect (with_withdrawn p n (tables_of h)) Withdraws p n
+withdrawal_is_shown h p n there = ap state_in here ∙ state_put Withdrawn (revision_of h p n) there
   where
     here : cond (is_profile p p && (n == n)) (option_map (in_state Withdrawn) (revision_of h p n)) (revision_of h p n) ≡ option_map (in_state Withdrawn) (revision_of h p n)
     here = put_at (is_profile p p && (n == n)) _ _ (λ i. profile_itself p i && eq-eqb n n refl i)
+
+-- each effect is shown by what it makes of tables
+effect_is_shown : (h : History) (effect : Effect) (p : ProfileName) (n : ℕ) → is_none (state_in (revision_of h p n)) ≡ false → ShowsEffect (with_effect effect p n (tables_of h)) effect p n
+effect_is_shown h Issues p n there = issue_is_shown h p n there
+effect_is_shown h Withdraws p n there = withdrawal_is_shown h p n there
+effect_is_shown h Adopts p n there = put_at (bytes_eq p.team p.team) _ _ (bytes_same p.team p.team refl)
+
+effect_shown_after : (h : History) (effect : Effect) (p : ProfileName) (n : ℕ) → ActAllowed h effect p n → ShowsEffect (tables_after h effect p n) effect p n
+effect_shown_after h effect p n may = subst (λ x. ShowsEffect x effect p n) (effect_tables h effect p n may) (effect_is_shown h effect p n may.there)
 
 shown_after : (h : History) → IsLawfulHistory h → (e : Event) → Follows h e → Shows (tables_of (e ∷ h)) e
 shown_after h lawful (founded n t d l) is = absurd is
 shown_after h lawful (enrolled c n t r d) is = put_at (bytes_eq n n) _ _ (bytes_same n n refl)
 shown_after h lawful (submitted c p t) is = subst (λ x. LastIsOpen x p c t) (submitted_tables h lawful c p t) (new_is_last h c p t)
 shown_after h lawful (voted c p n d a) is = new_is_kept h c p n d a
-shown_after h lawful (issued c p n) is = subst (λ x. Shows x (issued c p n)) (issued_tables h c p n is.still_open) (issue_is_shown h c p n is.there)
-shown_after h lawful (withdrawn c p n) is = subst (λ x. Shows x (withdrawn c p n)) (withdrawn_tables h c p n) (withdrawal_is_shown h c p n is.there)
-shown_after h lawful (adopted c p n) is = put_at (bytes_eq p.team p.team) _ _ (bytes_same p.team p.team refl)
+shown_after h lawful (on_revision c act p n) is = effect_shown_after h (effect_of act) p n (act_follows h c act p n is)
 shown_after h lawful (on_profile c act p) is = put_at (is_profile p p) (holds act) (is_held h p) (profile_itself p)
 
 pub last_shown : (h : History) (e : Event) → IsLawfulHistory (e ∷ h) → Shows (tables_of (e ∷ h)) e
@@ -158,8 +167,8 @@ same_votes h c p n d a shown = sym (voted_tables h c p n d a) ∙ (λ i. record 
         let of_revision = both (is_profile q p) (k == n) parts.0 in
         (λ i. kept_vote_of h (same_profile q p of_revision.0 i) (eqb-true k n of_revision.1 i) (same_bytes name c parts.1 i)) ∙ shown)
 
-same_baselines : (h : History) (c : List ℕ) (p : ProfileName) (n : ℕ) → Shows (tables_of h) (adopted c p n) → tables_of (adopted c p n ∷ h) ≡ tables_of h
-same_baselines h c p n shown = λ i. record (tables_of h) { baselines = λ team. baselines team i }
+same_baselines : (h : History) (p : ProfileName) (n : ℕ) → ShowsEffect (tables_of h) Adopts p n → tables_after h Adopts p n ≡ tables_of h
+same_baselines h p n shown = λ i. record (tables_of h) { baselines = λ team. baselines team i }
   where
     baseline : Baseline
     baseline = record { profile = p.profile; number = n }
@@ -170,14 +179,17 @@ same_baselines h c p n shown = λ i. record (tables_of h) { baselines = λ team.
 same_holds : (h : History) (p : ProfileName) (b : Bool) → is_held h p ≡ b → (q : ProfileName) → cond (is_profile q p) b (is_held h q) ≡ is_held h q
 same_holds h p b shown q = same_at (is_profile q p) b (is_held h q) (λ same. ap (is_held h) (same_profile q p same) ∙ shown)
 
+same_after : (h : History) (effect : Effect) (p : ProfileName) (n : ℕ) → ActAllowed h effect p n → ShowsEffect (tables_of h) effect p n → tables_after h effect p n ≡ tables_of h
+same_after h Issues p n may shown = absurd (false_is_true (sym (ap is_open shown) ∙ may.found))
+same_after h Withdraws p n may shown = absurd (false_is_true (sym (ap is_standing shown) ∙ may.found))
+same_after h Adopts p n may shown = same_baselines h p n shown
+
 unchanged : (h : History) (e : Event) → Follows h e → Shows (tables_of h) e → tables_of (e ∷ h) ≡ tables_of h
 unchanged h (founded n t d l) is shown = absurd is
 unchanged h (enrolled c n t r d) is shown = same_users h c n t r d shown
 unchanged h (submitted c p t) is shown = absurd (not_again h c p t is shown)
 unchanged h (voted c p n d a) is shown = same_votes h c p n d a shown
-unchanged h (issued c p n) is shown = absurd (false_is_true (sym (ap is_open shown) ∙ is.still_open))
-unchanged h (withdrawn c p n) is shown = absurd (false_is_true (sym (ap is_standing shown) ∙ is.standing))
-unchanged h (adopted c p n) is shown = same_baselines h c p n shown
+unchanged h (on_revision c act p n) is shown = same_after h (effect_of act) p n (act_follows h c act p n is) shown
 unchanged h (on_profile c act p) is shown = λ i. record (tables_of h) { holds = λ q. same_holds h p (holds act) shown q i }
 
 pub shown_unchanged : (h : History) (e : Event) → IsLawfulHistory (e ∷ h) → Shows (tables_of h) e → tables_of (e ∷ h) ≡ tables_of h

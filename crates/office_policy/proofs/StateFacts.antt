@@ -1,26 +1,35 @@
 -- The state of revisions, before and after a submission.
-use Rattle.std.proofs.Common.{◌≡◌, ◌∙◌, ◌<◌, ◌≤◌, ◌==◌, ◌&&◌, ℕ, suc, List, [], ◌∷◌, length, Bool, true, false, cond, Some, None, Option, refl, sym, ap, subst, arith, eqb-true}
+use Rattle.std.proofs.Common.{◌≡◌, ◌∙◌, ◌<◌, ◌≤◌, ◌==◌, ◌&&◌, ◌||◌, ℕ, suc, List, [], ◌∷◌, length, Bool, true, false, cond, Some, None, Option, refl, sym, ap, subst, arith, eqb-true}
 use Rattle.std.specs.Prelude.{option_map, bytes_eq, nat_lt, filter, if◌then◌else◌}
 use Rattle.std.specs.List.{list_any}
 use Rattle.std.proofs.lemmas.Bool.{ne_eqb, lt-ltb, le-ltb}
 use Rattle.profile_text.specs.Digest.{digest_of}
+use Rattle.review_policy.specs.declared.act.Effect.{Effect}
+use Rattle.review_policy.specs.declared.act.Effect.TheVariants.{Issues, Withdraws}
+use Rattle.review_policy.specs.declared.act.RevisionAct.{RevisionAct}
 use Rattle.review_policy.specs.declared.ask.ProfileName.{ProfileName}
 use Rattle.review_policy.specs.declared.revision.State.{State}
 use Rattle.review_policy.specs.declared.revision.State.TheVariants.{Open, Closed, Issued, Replaced, Withdrawn}
+use Rattle.review_policy.specs.Acts.{has_effect, is_effect}
 use Rattle.office_tables.specs.declared.row.RevisionRow.{RevisionRow}
 use Rattle.office_tables.specs.Tables.{is_profile}
 use Rattle.office_tables.specs.Changes.{after_submission}
-use Rattle.office_policy.specs.History.{Event, founded, enrolled, submitted, voted, issued, withdrawn, adopted, on_profile, History}
+use Rattle.office_policy.specs.History.{Event, founded, enrolled, submitted, voted, on_revision, on_profile, History}
 use Rattle.office_policy.specs.Revisions.{Submission, submits, issues, withdraws, is_replaced, revision_count, submission_of, revision_of}
 use Rattle.office_policy.specs.Lawful.{IsLawfulHistory}
 use Rattle.office_policy.proofs.UserFacts.{same_bytes}
 use Rattle.office_policy.proofs.RevisionFacts.{count_more, within_last, standing_within}
-use Rattle.office_policy.proofs.LawFacts.{Follows, allowed_follows}
+use Rattle.office_policy.proofs.LawFacts.{Follows, act_follows, allowed_follows}
 
 pub both : (a b : Bool) → (a && b) ≡ true → (a ≡ true) × (b ≡ true)
 both true true e = (refl, refl)
 both true false e = absurd (cc)
 both false b e = absurd (cc)
+
+-- what is false is so beside any other test
+pub beside : (a b : Bool) → b ≡ false → (a && b) ≡ false
+beside true b is = is
+beside false b is = refl
 
 -- names of one profile are the same
 pub same_profile : (p q : ProfileName) → is_profile p q ≡ true → p ≡ q
@@ -43,6 +52,15 @@ unlike h p q n k above within =
       | false ↦ λ same. refl
     ] refl
 
+-- an act on a revision up to the last has no effect on one above
+unnamed_by : (h : History) (p q : ProfileName) (n k : ℕ) (act : RevisionAct) (effect : Effect) (among : Bool) → revision_count h p < n → k ≤ revision_count h q → among ≡ false
+    → ((has_effect act effect && is_profile p q && (n == k)) || among) ≡ false
+unnamed_by h p q n k act effect among above within none = neither (has_effect act effect) (is_profile p q) (n == k) among (unlike h p q n k above within) none
+  where
+    neither : (a b c d : Bool) → (b && c) ≡ false → d ≡ false → ((a && b && c) || d) ≡ false
+    neither true b c d is none = ap (λ x. x || d) is ∙ none
+    neither false b c d is none = none
+
 unnamed_more : (h : History) (e : Event) → Follows h e → (p : ProfileName) (n : ℕ) → revision_count (e ∷ h) p < n → (revision_count h p < n → IsUnnamed h p n) → IsUnnamed (e ∷ h) p n
 unnamed_more h (founded x t d l) is p n above before = absurd is
 unnamed_more h (enrolled c x t r d) is p n above before = let u = before above in record { issues = u.issues; withdrawals = u.withdrawals }
@@ -54,11 +72,13 @@ unnamed_more h (submitted c q t) is p n above before =
     fewer true k n more = omega arith
     fewer false k n more = more
 unnamed_more h (voted c q k d a) is p n above before = let u = before above in record { issues = u.issues; withdrawals = u.withdrawals }
-unnamed_more h (issued c q k) is p n above before =
-    let u = before above in record { issues = rw (unlike h p q n k above (standing_within h q k is.there)) u.issues; withdrawals = u.withdrawals }
-unnamed_more h (withdrawn c q k) is p n above before =
-    let u = before above in record { issues = u.issues; withdrawals = rw (unlike h p q n k above (standing_within h q k is.there)) u.withdrawals }
-unnamed_more h (adopted c q k) is p n above before = let u = before above in record { issues = u.issues; withdrawals = u.withdrawals }
+unnamed_more h (on_revision c act q k) is p n above before =
+    let u = before above in
+    let within : k ≤ revision_count h q = standing_within h q k (act_follows h c act q k is).there in
+    record {
+      issues = unnamed_by h p q n k act Issues (list_any (issues p n) h) above within u.issues;
+      withdrawals = unnamed_by h p q n k act Withdraws (list_any (withdraws p n) h) above within u.withdrawals;
+    }
 unnamed_more h (on_profile c act q) is p n above before = let u = before above in record { issues = u.issues; withdrawals = u.withdrawals }
 
 -- no issue and no withdrawal names a revision above the last
@@ -93,6 +113,21 @@ row_at h p n last s = record {
   number = n;
   author = s.author;
   state = state_by (list_any (withdraws p n) h) (list_any (issues p n) h) (is_replaced h p n) (nat_lt n last);
+  body = s.text;
+  digest = digest_of s.text;
+}
+
+-- the row of a submission after this is done to a revision: whether to one of its profile, and of its number
+abbrev pub row_after : History → ProfileName → ℕ → Effect → (own this : Bool) → Submission → RevisionRow
+row_after h p n effect own this s = record {
+  number = n;
+  author = s.author;
+  state =
+      state_by
+      ((is_effect effect Withdraws && own && this) || list_any (withdraws p n) h)
+      ((is_effect effect Issues && own && this) || list_any (issues p n) h)
+      ((is_effect effect Issues && own && list_any (issues p n) h) || is_replaced h p n)
+      (nat_lt n (revision_count h p));
   body = s.text;
   digest = digest_of s.text;
 }

@@ -7,6 +7,7 @@ use Rattle.profile_text.specs.Reading.{reading_of}
 use Rattle.profile_text.specs.Text.{text_of}
 use Rattle.profile_text.specs.declared.profile.Profile.{Profile}
 use Rattle.profile_text.specs.declared.fault.DocFault.{DocFault}
+use Rattle.review_policy.specs.declared.act.Effect.TheVariants.{Issues, Withdraws, Adopts}
 use Rattle.review_policy.specs.declared.act.RevisionAct.TheVariants.{Issue, Withdraw, Adopt}
 use Rattle.review_policy.specs.declared.act.RevisionView.TheVariants.{Show, Sheet}
 use Rattle.review_policy.specs.declared.ask.ProfileName.{ProfileName}
@@ -16,14 +17,14 @@ use Rattle.review_policy.specs.declared.ask.Request.{Request}
 use Rattle.review_policy.specs.declared.answer.Reply.TheVariants as reply
 use Rattle.review_policy.specs.declared.denial.Denial.{Denial}
 use Rattle.review_policy.specs.declared.role.Role.TheVariants.{Security}
-use Rattle.review_policy.specs.Acts.{holds}
+use Rattle.review_policy.specs.Acts.{has_effect, holds}
 use Rattle.review_policy.specs.Rules.{first_denial, enrol_rules, submit_rules, vote_rules, issue_rules, withdraw_rules, adopt_rules, read_rules, fetch_rules, hold_rules, revisions_rules, behind_caller}
 use Rattle.review_sheet.specs.Sheet.{sheet_text}
 use Rattle.office_tables.specs.declared.row.UserRow.{UserRow}
 use Rattle.office_tables.specs.declared.row.RevisionRow.{RevisionRow}
 use Rattle.office_tables.specs.Lists.{holds_role, standing_vote}
 use Rattle.office_tables.specs.Tables.{Baseline, is_profile}
-use Rattle.office_policy.specs.History.{Event, founded, enrolled, submitted, voted, issued, withdrawn, adopted, on_profile, on_revision, History}
+use Rattle.office_policy.specs.History.{Event, founded, enrolled, submitted, voted, on_profile, on_revision, History}
 use Rattle.office_policy.specs.Users.{registrar_alone, user_of, names_of, shows_digest, user_showing, name_of}
 use Rattle.office_policy.specs.Names.{with_name}
 use Rattle.office_policy.specs.Revisions.{submits, issues_profile, issues, withdraws, revision_count, submission_of, is_replaced, state_of, revision_of, last_revision, is_submission_by, is_author, number_of, last_issue, if_issued, issued_revision}
@@ -39,7 +40,7 @@ use Rattle.office_policy.specs.Newest.{revisions_among, revisions_of, is_before,
 use Rattle.office_policy.specs.Verdict.{accepted, of_revision, new_revision, done_to, given_of, rules_of, done_of, judged, verdict_of, verdict}
 use Rattle.office_policy.specs.Teams.{concerns, team_of}
 use Rattle.office_policy.proofs.RevisionFacts.{count_more}
-use Rattle.office_policy.proofs.StateFacts.{state_by}
+use Rattle.office_policy.proofs.StateFacts.{beside, state_by}
 
 -- a look back that passes over what concerns other teams
 module _ (team : List ℕ) where
@@ -104,16 +105,20 @@ module _ (p : ProfileName) where
   no_submission (submitted c q t) other = rw other refl
   no_submission _ other = refl
 
+  -- nothing that is done to another team's revision is done to one of these
+  no_effect : (has : Bool) (q : ProfileName) → bytes_eq p.team q.team ≡ false → (has && is_profile p q) ≡ false
+  no_effect has q other = beside has (is_profile p q) (rw other refl)
+
   no_issue : (n : ℕ) (e : Event) → concerns p.team e ≡ false → issues p n e ≡ false
-  no_issue n (issued c q m) other = rw other refl
+  no_issue n (on_revision c act q m) other = ap (λ b. b && (n == m)) (no_effect (has_effect act Issues) q other)
   no_issue n _ other = refl
 
   no_issue_of_it : (e : Event) → concerns p.team e ≡ false → issues_profile p e ≡ false
-  no_issue_of_it (issued c q m) other = rw other refl
+  no_issue_of_it (on_revision c act q m) other = no_effect (has_effect act Issues) q other
   no_issue_of_it _ other = refl
 
   no_withdrawal : (n : ℕ) (e : Event) → concerns p.team e ≡ false → withdraws p n e ≡ false
-  no_withdrawal n (withdrawn c q m) other = rw other refl
+  no_withdrawal n (on_revision c act q m) other = ap (λ b. b && (n == m)) (no_effect (has_effect act Withdraws) q other)
   no_withdrawal n _ other = refl
 
   no_author : (name : List ℕ) (e : Event) → concerns p.team e ≡ false → is_submission_by name p e ≡ false
@@ -194,11 +199,11 @@ module _ (p : ProfileName) where
   newest_alone = alone p.team (λ h. last_issue h p) past more
     where
       past : (h : History) (e : Event) → concerns p.team e ≡ false → last_issue (e ∷ h) p ≡ last_issue h p
-      past h (issued c q n) other = rw other refl
+      past h (on_revision c act q n) other = ap (λ b. cond b (Some n) (last_issue h p)) (no_effect (has_effect act Issues) q other)
       past h _ other = refl
 
       more : (h : History) (e : Event) → last_issue (filter (concerns p.team) h) p ≡ last_issue h p → last_issue (e ∷ filter (concerns p.team) h) p ≡ last_issue (e ∷ h) p
-      more h (issued c q n) same = ap (λ o. cond (is_profile p q) (Some n) o) same
+      more h (on_revision c act q n) same = ap (λ o. cond (has_effect act Issues && is_profile p q) (Some n) o) same
       more h _ same = same
 
   issued_alone : (h : History) → issued_revision (filter (concerns p.team) h) p ≡ issued_revision h p
@@ -262,11 +267,12 @@ module _ (team : List ℕ) where
   adoption_alone = alone team (λ h. adoption_of h team) past more
     where
       past : (h : History) (e : Event) → concerns team e ≡ false → adoption_of (e ∷ h) team ≡ adoption_of h team
-      past h (adopted c q n) other = rw other refl
+      past h (on_revision c act q n) other =
+          ap (λ b. cond b (Some (record { profile = q.profile; number = n })) (adoption_of h team)) (beside (has_effect act Adopts) (bytes_eq team q.team) other)
       past h _ other = refl
 
       more : (h : History) (e : Event) → adoption_of (filter (concerns team) h) team ≡ adoption_of h team → adoption_of (e ∷ filter (concerns team) h) team ≡ adoption_of (e ∷ h) team
-      more h (adopted c q n) same = ap (λ o. cond (bytes_eq team q.team) (Some (record { profile = q.profile; number = n })) o) same
+      more h (on_revision c act q n) same = ap (λ o. cond (has_effect act Adopts && bytes_eq team q.team) (Some (record { profile = q.profile; number = n })) o) same
       more h _ same = same
 
   adopted_alone : (h : History) → adopted_revision (filter (concerns team) h) team ≡ adopted_revision h team

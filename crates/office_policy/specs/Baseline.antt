@@ -1,13 +1,15 @@
 -- What the revisions of a team are compared with.
-use Rattle.std.specs.Prelude.{ℕ, List, [], ◌∷◌, if◌then◌else◌, Option, Some, None, option_map}
-use Rattle.std.specs.Prelude.{bytes_eq}
+use Rattle.std.specs.Prelude.{ℕ, List, [], ◌∷◌, ◌&&◌, if◌then◌else◌, Option, Some, None}
+use Rattle.std.specs.Prelude.{option_map, bytes_eq}
 use Rattle.profile_text.specs.declared.profile.Profile.{Profile}
 use Rattle.profile_text.specs.Profile.{closed_profile}
+use Rattle.review_policy.specs.declared.act.Effect.TheVariants.{Adopts}
 use Rattle.review_policy.specs.declared.revision.State.{State}
 use Rattle.review_policy.specs.declared.revision.State.TheVariants.{Withdrawn}
+use Rattle.review_policy.specs.Acts.{has_effect}
 use Rattle.office_tables.specs.declared.row.RevisionRow.{RevisionRow}
 use Rattle.office_tables.specs.Tables.{Baseline}
-use Rattle.office_policy.specs.History.{founded, adopted, History}
+use Rattle.office_policy.specs.History.{founded, on_revision, History}
 use Rattle.office_policy.specs.Revisions.{revision_of}
 use Rattle.office_policy.specs.Documents.{document_of}
 
@@ -20,8 +22,8 @@ listed_of (_ ∷ before) = listed_of before
 -- the revision of the last adoption that names the team
 abbrev pub adoption_of : History → List ℕ → Option Baseline
 adoption_of [] team = None
-adoption_of (adopted c q n ∷ before) team =
-    if bytes_eq team q.team
+adoption_of (on_revision c act q n ∷ before) team =
+    if has_effect act Adopts && bytes_eq team q.team
     then Some (record { profile = q.profile; number = n })
     else adoption_of before team
 adoption_of (_ ∷ before) team = adoption_of before team

@@ -1,15 +1,20 @@
 -- What the examples of definitions speak of that laws alone cite.
-use Rattle.std.specs.Prelude.{ℕ, List, [], ◌∷◌, true, codes}
+use Rattle.std.specs.Prelude.{ℕ, List, [], ◌∷◌, true, None, Vec, codes}
+use Rattle.std.specs.declared.alloc.Global.{Global}
 use Rattle.profile_text.specs.Digest.{digest_of}
 use Rattle.review_policy.specs.declared.answer.ListedProfile.{ListedProfile}
 use Rattle.review_policy.specs.declared.act.ProfileAct.TheVariants.{Hold, Release}
+use Rattle.review_policy.specs.declared.act.ProfileView.TheVariants.{Fetch}
+use Rattle.review_policy.specs.declared.act.RevisionAct.TheVariants.{Issue}
+use Rattle.review_policy.specs.declared.act.RevisionView.TheVariants.{Show}
+use Rattle.review_policy.specs.declared.ask.Ask.{Ask}
 use Rattle.review_policy.specs.declared.ask.Ask.TheVariants as ask
 use Rattle.review_policy.specs.declared.ask.Request.{Request}
 use Rattle.review_policy.specs.declared.revision.State.TheVariants.{Open}
 use Rattle.review_policy.specs.declared.ask.ProfileName.{ProfileName}
 use Rattle.office_policy.specs.History.{Event, History, founded, enrolled, submitted, voted}
 use Rattle.office_policy.specs.History.{issued, withdrawn, adopted, on_profile}
-use Rattle.office_policy.specs.Examples.{red, desk, root, ann, ben, rev, ray, sue, iss, web}
+use Rattle.office_policy.specs.Examples.{blue, red, desk, root, ann, ben, rev, ray, sue, iss, web}
 use Rattle.office_policy.specs.Examples.{listed, text, office, has_roles, submits, one_submitted}
 
 -- an event of each kind: the founding, an enrolment, and what happens to a profile
@@ -24,6 +29,21 @@ each_event p =
     ∷ adopted sue p 1
     ∷ on_profile sue Hold p
     ∷ on_profile sue Release p
+    ∷ []
+
+-- a request of each shape, of a profile of the team blue
+abbrev pub each_shape : Vec ℕ Global → List Ask
+each_shape document =
+    ask.Enrol (codes "new") blue 0 (1 ∷ [])
+    ∷ ask.Submit web document
+    ∷ ask.Vote web 1 (9 ∷ []) true
+    ∷ ask.ActOnRevision Issue web 1
+    ∷ ask.SeeRevision Show web 1
+    ∷ ask.List blue
+    ∷ ask.SeeProfile Fetch web
+    ∷ ask.ActOnProfile Hold web
+    ∷ ask.Me
+    ∷ ask.Revisions web None
     ∷ []
 
 -- ---- approvals by the digest of the text

@@ -4,14 +4,16 @@ use Rattle.std.specs.Prelude.{if◌then◌else◌, Option, Some, None, option_ma
 use Rattle.std.specs.Prelude.{filter, length, bytes_eq}
 use Rattle.std.specs.List.{list_any}
 use Rattle.profile_text.specs.Digest.{digest_of}
+use Rattle.review_policy.specs.declared.act.Effect.TheVariants.{Issues, Withdraws}
 use Rattle.review_policy.specs.declared.ask.ProfileName.{ProfileName}
 use Rattle.review_policy.specs.declared.revision.State.{State}
 use Rattle.review_policy.specs.declared.revision.State.TheVariants.{Open, Closed, Issued, Replaced}
 use Rattle.review_policy.specs.declared.revision.State.TheVariants.{Withdrawn}
+use Rattle.review_policy.specs.Acts.{has_effect}
 use Rattle.review_policy.specs.Rules.{is_open, is_issued}
 use Rattle.office_tables.specs.declared.row.RevisionRow.{RevisionRow}
 use Rattle.office_tables.specs.Tables.{is_profile}
-use Rattle.office_policy.specs.History.{Event, submitted, issued, withdrawn, History}
+use Rattle.office_policy.specs.History.{Event, submitted, on_revision, History}
 
 -- whether an event hands in a revision of the profile
 abbrev pub submits : ProfileName → Event → Bool
@@ -20,17 +22,17 @@ submits p _ = false
 
 -- whether an event issues a revision of the profile
 abbrev pub issues_profile : ProfileName → Event → Bool
-issues_profile p (issued c q n) = is_profile p q
+issues_profile p (on_revision c act q n) = has_effect act Issues && is_profile p q
 issues_profile p _ = false
 
 -- whether an event issues this revision
 abbrev pub issues : ProfileName → ℕ → Event → Bool
-issues p n (issued c q m) = is_profile p q && (n == m)
+issues p n (on_revision c act q m) = has_effect act Issues && is_profile p q && (n == m)
 issues p n _ = false
 
 -- whether an event withdraws this revision
 abbrev pub withdraws : ProfileName → ℕ → Event → Bool
-withdraws p n (withdrawn c q m) = is_profile p q && (n == m)
+withdraws p n (on_revision c act q m) = has_effect act Withdraws && is_profile p q && (n == m)
 withdraws p n _ = false
 
 -- how many revisions a profile has
@@ -109,7 +111,8 @@ number_of (Some r) = r.number
 -- the number that the newest issue of a profile names
 abbrev pub last_issue : History → ProfileName → Option ℕ
 last_issue [] p = None
-last_issue (issued c q n ∷ before) p = if is_profile p q then Some n else last_issue before p
+last_issue (on_revision c act q n ∷ before) p =
+    if has_effect act Issues && is_profile p q then Some n else last_issue before p
 last_issue (_ ∷ before) p = last_issue before p
 
 -- a revision where it is issued

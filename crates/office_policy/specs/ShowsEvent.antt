@@ -1,11 +1,11 @@
 -- What the tables show of an event, by which one sees whether it has reached them.
 use Rattle.std.specs.Prelude.{◌≡◌, ℕ, List, Some}
-use Rattle.review_policy.specs.declared.act.RevisionAct.{RevisionAct}
-use Rattle.review_policy.specs.declared.act.RevisionAct.TheVariants.{Issue, Withdraw, Adopt}
+use Rattle.review_policy.specs.declared.act.Effect.{Effect}
+use Rattle.review_policy.specs.declared.act.Effect.TheVariants.{Issues, Withdraws, Adopts}
 use Rattle.review_policy.specs.declared.ask.ProfileName.{ProfileName}
 use Rattle.review_policy.specs.declared.revision.State.TheVariants.{Open, Issued, Withdrawn}
 use Rattle.review_policy.specs.declared.role.Role.TheVariants.{Security}
-use Rattle.review_policy.specs.Acts.{holds}
+use Rattle.review_policy.specs.Acts.{effect_of, holds}
 use Rattle.office_tables.specs.declared.row.RevisionRow.{RevisionRow}
 use Rattle.office_tables.specs.Lists.{holds_role}
 use Rattle.office_tables.specs.Reads.{IsLast}
@@ -28,11 +28,11 @@ pub record LastIsOpen (t : Tables) (p : ProfileName) (caller bytes : List ℕ) :
   pub author : row.author ≡ caller
   pub text : row.body ≡ bytes
 
--- the tables have what is done to a revision
-abbrev pub ShowsAct : Tables → RevisionAct → ProfileName → ℕ → Type 0
-ShowsAct t Issue p n = state_in (t.revisions p n) ≡ Some Issued
-ShowsAct t Withdraw p n = state_in (t.revisions p n) ≡ Some Withdrawn
-ShowsAct t Adopt p n = t.baselines p.team ≡ Some (record { profile = p.profile; number = n })
+-- the tables have the effect of an act on a revision
+abbrev pub ShowsEffect : Tables → Effect → ProfileName → ℕ → Type 0
+ShowsEffect t Issues p n = state_in (t.revisions p n) ≡ Some Issued
+ShowsEffect t Withdraws p n = state_in (t.revisions p n) ≡ Some Withdrawn
+ShowsEffect t Adopts p n = t.baselines p.team ≡ Some (record { profile = p.profile; number = n })
 
 -- the tables have what the event puts into them. A vote's security is that of the voter's present
 -- row; the caller stands in the tables of a submission and of a vote alone
@@ -44,5 +44,5 @@ Shows t (submitted caller p text) = LastIsOpen t p caller text
 Shows t (voted caller p n digest approves) =
     t.votes p n caller
     ≡ Some (record { approves = approves; security = holds_role (t.users caller) Security })
-Shows t (on_revision caller act p n) = ShowsAct t act p n
+Shows t (on_revision caller act p n) = ShowsEffect t (effect_of act) p n
 Shows t (on_profile caller act p) = t.holds p ≡ holds act

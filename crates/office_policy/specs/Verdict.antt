@@ -79,8 +79,7 @@ new_revision h caller p (Ok profile) =
 -- of what is done to a revision an issue tells the digest of what hosts fetch
 abbrev pub done_to : Option RevisionRow → RevisionAct → Event → Verdict
 done_to revision Issue e = of_revision revision (λ r. accepted (reply.Issued r.digest) (Some e))
-done_to revision Withdraw e = accepted reply.Nothing (Some e)
-done_to revision Adopt e = accepted reply.Nothing (Some e)
+done_to revision _ e = accepted reply.Nothing (Some e)
 
 -- what is seen of a revision
 abbrev pub seen_of : History → ProfileName → RevisionView → RevisionRow → Reply

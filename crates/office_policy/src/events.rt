@@ -4,10 +4,13 @@
 
 ghost use Rattle.std.specs.Prelude.{◌≡◌, ◌∷◌, [], List, ℕ, Bool, true, suc, None};
 ghost use Rattle.profile_text.specs.Digest.{digest_of};
+ghost use Rattle.review_policy.specs.declared.act.Effect.TheVariants.{Issues, Withdraws, Adopts};
 ghost use Rattle.review_policy.specs.declared.act.ProfileAct.{ProfileAct};
 ghost use Rattle.review_policy.specs.declared.act.ProfileAct.TheVariants.{Hold, Release};
+ghost use Rattle.review_policy.specs.declared.act.RevisionAct.{RevisionAct};
 ghost use Rattle.review_policy.specs.declared.ask.ProfileName.{ProfileName};
 ghost use Rattle.review_policy.specs.declared.role.Role.TheVariants.{Security};
+ghost use Rattle.review_policy.specs.Acts.{effect_of};
 ghost use Rattle.review_policy.specs.Rules.{is_open};
 ghost use Rattle.office_tables.specs.Lists.{holds_role};
 ghost use Rattle.office_tables.specs.Changes.{founded_tables, with_user, with_revision, with_vote};
@@ -15,8 +18,8 @@ ghost use Rattle.office_tables.specs.Changes.{with_issued, with_withdrawn, with_
 ghost use Rattle.office_tables.specs.Changes.{with_hold, without_hold};
 ghost use Rattle.office_tables.specs.Reads.{submitted as new_revision};
 ghost use Rattle.office_tables.specs.Tables.{Tables};
-ghost use Rattle.office_policy.specs.History.{History, founded, enrolled, submitted, voted, issued};
-ghost use Rattle.office_policy.specs.History.{withdrawn, adopted, on_profile};
+ghost use Rattle.office_policy.specs.History.{History, founded, enrolled, submitted, voted};
+ghost use Rattle.office_policy.specs.History.{on_revision, on_profile};
 ghost use Rattle.office_policy.specs.Holds.{with_act};
 ghost use Rattle.office_policy.specs.Users.{user_of, registrar_alone};
 ghost use Rattle.office_policy.specs.Revisions.{revision_of, revision_count, state_in};
@@ -64,23 +67,28 @@ pub fn a_vote_is_put()
         ≡ tables_of (voted caller p n digest approves ∷ h) }
 {}
 
-/// An issue of an open revision makes it issued, and replaces the issued one of its profile.
+/// An issue of an open revision makes it issued, and replaces the issued one of its profile. So does
+/// every act that issues.
 pub fn an_issue_replaces_the_issued_one()
-    ensures { (h : History) (caller : List ℕ) (p : ProfileName) (n : ℕ)
-        → is_open (state_in (revision_of h p n)) ≡ true
-        → with_issued p n (tables_of h) ≡ tables_of (issued caller p n ∷ h) }
+    ensures { (h : History) (caller : List ℕ) (act : RevisionAct) (p : ProfileName) (n : ℕ)
+        → effect_of act ≡ Issues → is_open (state_in (revision_of h p n)) ≡ true
+        → with_issued p n (tables_of h) ≡ tables_of (on_revision caller act p n ∷ h) }
 {}
 
-/// A withdrawal makes its revision withdrawn, and changes no other.
+/// A withdrawal makes its revision withdrawn, and changes no other. So does every act that
+/// withdraws.
 pub fn a_withdrawal_withdraws_one_revision()
-    ensures { (h : History) (caller : List ℕ) (p : ProfileName) (n : ℕ)
-        → with_withdrawn p n (tables_of h) ≡ tables_of (withdrawn caller p n ∷ h) }
+    ensures { (h : History) (caller : List ℕ) (act : RevisionAct) (p : ProfileName) (n : ℕ)
+        → effect_of act ≡ Withdraws
+        → with_withdrawn p n (tables_of h) ≡ tables_of (on_revision caller act p n ∷ h) }
 {}
 
-/// An adoption puts the team's baseline in the place of any earlier one.
+/// An adoption puts the team's baseline in the place of any earlier one. So does every act that
+/// adopts.
 pub fn an_adoption_puts_the_baseline()
-    ensures { (h : History) (caller : List ℕ) (p : ProfileName) (n : ℕ)
-        → with_baseline p n (tables_of h) ≡ tables_of (adopted caller p n ∷ h) }
+    ensures { (h : History) (caller : List ℕ) (act : RevisionAct) (p : ProfileName) (n : ℕ)
+        → effect_of act ≡ Adopts
+        → with_baseline p n (tables_of h) ≡ tables_of (on_revision caller act p n ∷ h) }
 {}
 
 /// An act on a profile holds it or releases it, and no other.

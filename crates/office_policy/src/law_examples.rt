@@ -4,7 +4,10 @@ ghost use Rattle.std.specs.Prelude.{◌≡◌, ◌↔◌, [], ◌∷◌, ◌++�
 ghost use Rattle.std.specs.Prelude.{Option, Some, List, ℕ, Vec};
 ghost use Rattle.std.specs.declared.alloc.Global.{Global};
 ghost use Rattle.profile_text.specs.Digest.{digest_of};
+ghost use Rattle.review_policy.specs.declared.act.Effect.TheVariants as effects;
+ghost use Rattle.review_policy.specs.declared.act.RevisionAct.TheVariants.{Issue, Withdraw};
 ghost use Rattle.review_policy.specs.declared.act.RevisionView.TheVariants.{Show};
+ghost use Rattle.review_policy.specs.Acts.{effect_of, has_effect};
 ghost use Rattle.review_policy.specs.FirstRefusal.{IsFirstRefusal};
 ghost use Rattle.review_policy.specs.declared.act.ProfileAct.TheVariants.{Hold};
 ghost use Rattle.review_policy.specs.declared.ask.Ask.TheVariants as ask;
@@ -43,17 +46,17 @@ ghost use Rattle.office_policy.specs.Examples.{one_submitted, both_submitted, bo
 ghost use Rattle.office_policy.specs.Examples.{reviewers_approve};
 ghost use Rattle.office_policy.specs.Examples.{first_issued, second_approved, baseline_withdrawn};
 ghost use Rattle.office_policy.specs.Examples.{held_when_issued, released_then};
-ghost use Rattle.office_policy.specs.CallerTable.{each_kind};
-ghost use Rattle.office_policy.specs.LawExamples.{each_event, text_approved, one_approves_text};
+ghost use Rattle.office_policy.specs.LawExamples.{each_event, each_shape, text_approved};
+ghost use Rattle.office_policy.specs.LawExamples.{one_approves_text};
 ghost use Rattle.office_policy.specs.LawExamples.{reviewers_approve_text, author_approves_text};
 ghost use Rattle.office_policy.specs.LawExamples.{sue_shows, asks_hold, open_profile};
 ghost use Rattle.no_memory.specs.Witness.{witness};
 
-/// Of the fifteen kinds seven only read: to see a revision, its sheet, the profiles of a team, to
-/// fetch, and to see who one is, the revisions of a profile, and which one is issued.
+/// Of the ten shapes of requests five only read: to see a revision, the profiles of a team, what is
+/// issued of a profile, who one is, and the revisions of a profile.
 pub fn examples_of_what_only_reads()
-    ensures { (document : Vec ℕ Global) → map only_reads (each_kind document)
-        ≡ replicate 6 false ++ replicate 4 true ++ replicate 2 false ++ replicate 3 true }
+    ensures { (document : Vec ℕ Global) → map only_reads (each_shape document)
+        ≡ replicate 4 false ++ replicate 3 true ++ false ∷ replicate 2 true }
 {}
 
 /// The founding and the enrolments concern each team; whatever else happens, the team of its
@@ -61,8 +64,15 @@ pub fn examples_of_what_only_reads()
 pub fn examples_of_what_concerns_a_team()
     ensures own_team { map (concerns blue) (each_event web) ≡ replicate 9 true }
     ensures other_team { map (concerns red) (each_event web) ≡ true ∷ true ∷ replicate 7 false }
-    ensures asked { (document : Vec ℕ Global) → map team_of (each_kind document)
-        ≡ replicate 12 blue ++ [] ∷ replicate 2 blue }
+    ensures asked { (document : Vec ℕ Global) → map team_of (each_shape document)
+        ≡ replicate 8 blue ++ [] ∷ blue ∷ [] }
+{}
+
+/// An issue issues its revision, and doesn't withdraw it; a withdrawal does.
+pub fn examples_of_effects()
+    ensures issue { has_effect Issue effects.Issues ≡ true }
+    ensures no_withdrawal { has_effect Issue effects.Withdraws ≡ false }
+    ensures withdrawal { effect_of Withdraw ≡ effects.Withdraws }
 {}
 
 /// What a user of then may ask is allowed, whatever token the user shows. What is in the name of

@@ -1,9 +1,11 @@
 -- What is done to revisions and profiles, and what is seen of them: their words, and what they
--- make of a hold.
+-- do.
 use Rattle.std.specs.Prelude.{ℕ, List, [], ◌∷◌, Bool, true, false, Option, find, codes}
 use Rattle.std.specs.Str.{bytes_eq}
 use Rattle.review_policy.specs.declared.act.RevisionAct.{RevisionAct}
 use Rattle.review_policy.specs.declared.act.RevisionAct.TheVariants.{Issue, Withdraw, Adopt}
+use Rattle.review_policy.specs.declared.act.Effect.{Effect}
+use Rattle.review_policy.specs.declared.act.Effect.TheVariants.{Issues, Withdraws, Adopts}
 use Rattle.review_policy.specs.declared.act.RevisionView.{RevisionView}
 use Rattle.review_policy.specs.declared.act.RevisionView.TheVariants.{Show, Sheet}
 use Rattle.review_policy.specs.declared.act.ProfileAct.{ProfileAct}
@@ -58,7 +60,25 @@ profile_act_of text = find (λ act. bytes_eq text (profile_act_word act)) profil
 abbrev pub profile_view_of : List ℕ → Option ProfileView
 profile_view_of text = find (λ view. bytes_eq text (profile_view_word view)) profile_views
 
--- ---- holds
+-- ---- what they do
+
+-- an issue replaces the issued revision, a withdrawal takes its revision back, an adoption makes it
+-- the baseline
+abbrev pub effect_of : RevisionAct → Effect
+effect_of Issue = Issues
+effect_of Withdraw = Withdraws
+effect_of Adopt = Adopts
+
+-- whether an effect is this one
+abbrev pub is_effect : Effect → Effect → Bool
+is_effect Issues Issues = true
+is_effect Withdraws Withdraws = true
+is_effect Adopts Adopts = true
+is_effect _ _ = false
+
+-- whether an act has this effect
+abbrev pub has_effect : RevisionAct → Effect → Bool
+has_effect act effect = is_effect (effect_of act) effect
 
 -- whether a profile is held after this
 abbrev pub holds : ProfileAct → Bool

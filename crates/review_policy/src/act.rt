@@ -1,8 +1,9 @@
 //! What is done to revisions and profiles, and what is seen of them.
 
 ghost use Rattle.std.specs.Prelude.{◌≡◌};
-ghost use Rattle.review_policy.specs.Acts.{holds, profile_act_of, profile_act_word, profile_view_of};
-ghost use Rattle.review_policy.specs.Acts.{profile_view_word, revision_act_of, revision_act_word};
+ghost use Rattle.review_policy.specs.Acts.{effect_of, holds, profile_act_of, profile_act_word};
+ghost use Rattle.review_policy.specs.Acts.{profile_view_of, profile_view_word};
+ghost use Rattle.review_policy.specs.Acts.{revision_act_of, revision_act_word};
 ghost use Rattle.review_policy.specs.Acts.{revision_view_of, revision_view_word};
 
 /// What is done to a revision.
@@ -14,6 +15,17 @@ pub enum RevisionAct {
     Withdraw,
     /// It becomes the baseline of its team.
     Adopt,
+}
+
+/// What an act on a revision does to it: the effect.
+#[derive(Clone, Copy, Debug, PartialEq, Eq)]
+pub enum Effect {
+    /// The revision is issued, and replaces the issued one of its profile.
+    Issues,
+    /// The revision is taken back.
+    Withdraws,
+    /// The revision becomes the baseline of its team.
+    Adopts,
 }
 
 /// What is seen of a revision.
@@ -64,6 +76,17 @@ impl RevisionAct {
             "withdraw" => Some(RevisionAct::Withdraw),
             "adopt" => Some(RevisionAct::Adopt),
             _ => None,
+        }
+    }
+
+    /// Its effect.
+    pub fn effect(self) -> Effect
+        ensures { result ≡ effect_of self }
+    {
+        match self {
+            RevisionAct::Issue => Effect::Issues,
+            RevisionAct::Withdraw => Effect::Withdraws,
+            RevisionAct::Adopt => Effect::Adopts,
         }
     }
 }

@@ -16,7 +16,7 @@ pub mod text;
 pub mod token;
 pub mod word;
 
-pub use act::{ProfileAct, ProfileView, RevisionAct, RevisionView};
+pub use act::{Effect, ProfileAct, ProfileView, RevisionAct, RevisionView};
 pub use answer::{Answer, ListedProfile, Listing, ProfileRevision, Reply, RevisionList};
 pub use ask::{Ask, ProfileName, Request};
 pub use decide::{need, no_rule_refuses_passing_facts, the_first_refusing_rule_is_named};

@@ -12,7 +12,7 @@ pub returns-in-Vote : goal.returns-in-Vote
 returns-in-Vote g c = subst (λ change. Asks g.S.Store (write_by c.args.allowed.now.caller change) c.args.conn.now c.write_vote.new.conn c.write_vote.result) (sym c.in-Vote.is) c.write_vote.ensures
 
 pub returns-in-ActOnRevision : goal.returns-in-ActOnRevision
-returns-in-ActOnRevision g c = subst (λ change. Asks g.S.Store (write_by c.args.allowed.now.caller change) c.args.conn.now c.write_on_revision.new.conn c.write_on_revision.result) (sym c.in-ActOnRevision.is) c.write_on_revision.ensures
+returns-in-ActOnRevision g c = subst (λ change. Asks g.S.Store (write_by c.args.allowed.now.caller change) c.args.conn.now c.write_on_revision.new.conn c.write_on_revision.result) (sym c.in-ActOnRevision.is) (rw c.effect.ensures at c.write_on_revision.ensures)
 
 pub returns-in-ActOnProfile : goal.returns-in-ActOnProfile
 returns-in-ActOnProfile g c = subst (λ change. Asks g.S.Store (write_by c.args.allowed.now.caller change) c.args.conn.now c.write_on_profile.new.conn c.write_on_profile.result) (sym c.in-ActOnProfile.is) c.write_on_profile.ensures

@@ -32,7 +32,7 @@ pub fn is_change(alloc: Global, request: &str, answer: &str) -> Result<bool> {
     })
 }
 
-// How a kind is asked: the method, the target, in which names of members stand between `$`, and the names of the members
+// The way to ask a kind: the method, the target, in which names of members stand between `$`, and the names of the members
 // that are in the body.
 #[derive(Clone, Copy)]
 struct Route {
@@ -41,23 +41,24 @@ struct Route {
     members: &'static str,
 }
 
-fn get(target: &'static str) -> Option<Route> {
-    Some(Route {
+fn get(target: &'static str) -> Route {
+    Route {
         method: "GET",
         target,
         members: "",
-    })
+    }
 }
 
-fn post(target: &'static str, members: &'static str) -> Option<Route> {
-    Some(Route {
+fn post(target: &'static str, members: &'static str) -> Route {
+    Route {
         method: "POST",
         target,
         members,
-    })
+    }
 }
 
-fn route_of(kind: &str) -> Option<Route> {
+// How a kind is asked. One that isn't named here is an act on a revision, and asked by its word.
+fn route_of(kind: &str) -> Route {
     match kind {
         "enrol" => post("/users", "user team roles digest"),
         "submit" => post("/p/$team$/$profile$", "document"),
@@ -65,16 +66,13 @@ fn route_of(kind: &str) -> Option<Route> {
         "show" => get("/p/$team$/$profile$/$revision$"),
         "sheet" => get("/p/$team$/$profile$/$revision$/sheet"),
         "vote" => post("/p/$team$/$profile$/$revision$/vote", "digest vote"),
-        "issue" => post("/p/$team$/$profile$/$revision$/issue", ""),
-        "withdraw" => post("/p/$team$/$profile$/$revision$/withdraw", ""),
-        "adopt" => post("/p/$team$/$profile$/$revision$/adopt", ""),
         "fetch" => get("/issued/$team$/$profile$"),
         "hold" => post("/hold/$team$/$profile$", ""),
         "release" => post("/release/$team$/$profile$", ""),
         "me" => get("/me"),
         "revisions" => get("/p/$team$/$profile$$before$"),
         "issued" => get("/issued/$team$/$profile$/digest"),
-        _ => None,
+        _ => post("/p/$team$/$profile$/$revision$/$ask$", ""),
     }
 }
 
@@ -100,7 +98,7 @@ fn query_of(alloc: Global, request: &Value) -> Result<String> {
 // What stands for a part of a target: for the name of a member that, and else the part.
 fn filled(alloc: Global, request: &Value, part: &str) -> Result<String> {
     match part {
-        "team" | "profile" => Ok(String::from_str(alloc, text_of(request, part))?),
+        "team" | "profile" | "ask" => Ok(String::from_str(alloc, text_of(request, part))?),
         "revision" => json_of(alloc, request, part),
         "before" => query_of(alloc, request),
         _ => Ok(String::from_str(alloc, part)?),
@@ -171,10 +169,7 @@ pub fn message_of(alloc: Global, line: &str) -> Result<Option<String>> {
         return Ok(None);
     }
     let request = Value::from_str(alloc, line)?;
-    match route_of(text_of(&request, "ask")) {
-        Some(route) => message_by(alloc, &request, route),
-        None => Ok(None),
-    }
+    message_by(alloc, &request, route_of(text_of(&request, "ask")))
 }
 
 // The status of the response that has an answer.
