@@ -1,7 +1,7 @@
 -- The faults that tell that a journal couldn't be read.
 use Rattle.std.specs.Prelude.{◌≡◌, ◌⊎◌, ℕ, List, Bool, true, false, Result}
 use Rattle.std.specs.declared.io.Error.{Error}
-use Rattle.journal.specs.declared.fault.Unreadable.TheVariants as unreadable
+use Rattle.sealed_log.specs.declared.unreadable.Unreadable.TheVariants as unreadable
 use Rattle.journal_office.specs.declared.refused.Refused.{Refused}
 use Rattle.journal_office.specs.declared.refused.Why.{Why}
 use Rattle.journal_office.specs.declared.refused.Why.TheVariants as halt

@@ -8,11 +8,11 @@ ghost use Rattle.command_host.specs.JournalTexts.{IsNoText, IsTextAt};
 use crate::fault::CommandFault;
 use crate::files::PassFiles;
 use crate::noted::Noted;
-use journal::Unreadable;
 use journal_office::{Refused, Why};
 use journal_reports::{NoEvidence, Unwritten};
 use journal_verification::Unverified;
 use no_memory::NoMemory;
+use sealed_log::Unreadable;
 use std::alloc::Global;
 use std::io::{BufReader, ErrorKind};
 

@@ -7,10 +7,10 @@ use Rattle.sealed_log.specs.Sealed.{no_seal, seal_on, sealed_line, sealed_text}
 use Rattle.sealed_log.specs.Told.{told as bodies_told}
 use Rattle.sealed_log.proofs.SealFacts.{length-last_seal, length-no_seal}
 use Rattle.sealed_log.proofs.ToldFacts.{told_unended}
+use Rattle.sealed_log.specs.declared.unreadable.Unreadable.{Unreadable}
+use Rattle.sealed_log.specs.declared.unreadable.Unreadable.TheVariants.{NoEventBefore, Read, TornLine}
 use Rattle.office_policy.specs.Handled.{Stands}
 use Rattle.office_policy.specs.History.{Event, History}
-use Rattle.journal.specs.declared.fault.Unreadable.{Unreadable}
-use Rattle.journal.specs.declared.fault.Unreadable.TheVariants.{NoEventBefore, Read, TornLine}
 use Rattle.journal.specs.Journal.{IsEntry}
 use Rattle.journal.specs.Journals.{BeginsWith}
 use Rattle.journal.specs.Lines.{Line, happened, strike, text_of}

@@ -6,12 +6,13 @@ use Rattle.std.proofs.lemmas.List.Elements.{All-head, All-tail}
 use Rattle.sealed_log.specs.Sealed.{seal_on, sealed_line}
 use Rattle.sealed_log.specs.Told.{told_behind}
 use Rattle.sealed_log.proofs.ToldFacts.{told_line, told_nowhere, told_other, told_unended}
+use Rattle.sealed_log.specs.Input.{IsOutside}
+use Rattle.sealed_log.specs.declared.unreadable.Unreadable.{Unreadable}
+use Rattle.sealed_log.specs.declared.unreadable.Unreadable.TheVariants.{NotALine, NoEventBefore, Unsealed, TornLine, Read, NoMemory}
 use Rattle.office_policy.specs.History.{Event}
-use Rattle.journal.specs.declared.fault.Unreadable.{Unreadable}
-use Rattle.journal.specs.declared.fault.Unreadable.TheVariants.{NotALine, NoEventBefore, Unsealed, TornLine, Read, NoMemory}
 use Rattle.journal.specs.Journal.{IsEntry, settled_if, taken}
 use Rattle.journal.specs.Lines.{Line, done, text_of}
-use Rattle.journal.specs.Told.{CannotTake, IsOutside, IsStopped, IsTold, Place, Stops, Tells, held_after, seal_behind, text_behind, told}
+use Rattle.journal.specs.Told.{CannotTake, IsStopped, IsTold, Place, Stops, Tells, held_after, seal_behind, text_behind, told}
 use Rattle.journal.proofs.FirstFacts.{first_told}
 use Rattle.journal.proofs.JournalFacts.{no_line, same_sealed}
 use Rattle.journal.proofs.LineFacts.{same_line}

@@ -4,12 +4,12 @@ use Rattle.std.specs.Prelude.{Result, Ok, Err, ⊤, is_some, option_and_then}
 use Rattle.std.proofs.lemmas.List.{append_cancel_right, length-map, map-append}
 use Rattle.std.proofs.lemmas.List.Elements.{All-cons, All-head, All-nil, All-push, All-tail}
 use Rattle.sealed_log.specs.Sealed.{IsBody}
+use Rattle.sealed_log.specs.declared.unreadable.Unreadable.{Unreadable}
+use Rattle.sealed_log.specs.declared.unreadable.Unreadable.TheVariants.{NotALine, NoEventBefore, Unsealed, TornLine, Read, NoMemory}
 use Rattle.office_policy.specs.History.{Event, History}
 use Rattle.office_policy.specs.Runs.{with_event as with_was}
 use Rattle.journal.specs.Begun.{with_event}
 use Rattle.journal.specs.declared.kept.Kept.{Kept}
-use Rattle.journal.specs.declared.fault.Unreadable.{Unreadable}
-use Rattle.journal.specs.declared.fault.Unreadable.TheVariants.{NotALine, NoEventBefore, Unsealed, TornLine, Read, NoMemory}
 use Rattle.journal.specs.Forms.{IsFormed}
 use Rattle.journal.specs.Journal.{EndsWithEvent, IsEntry, Says, history_from, history_in, settled_if, taken}
 use Rattle.journal.specs.Kept.{IsFaulty, IsKept, SaysNone, Settled, TakesBody, keeps, keeps_by, settled_from, with_stood}

@@ -6,9 +6,9 @@ use Rattle.serde_json.specs.Data.{Data}
 use Rattle.serde_json.specs.Read.{max_depth, read}
 use Rattle.profile_text.proofs.Printing.{deeper, printed_json}
 use Rattle.json_requests.proofs.RequestFacts.{value_is, value_is_none}
+use Rattle.sealed_log.specs.declared.unreadable.Unreadable.{Unreadable}
+use Rattle.sealed_log.specs.declared.unreadable.Unreadable.TheVariants.{NotALine, NoEventBefore, Unsealed, TornLine, Read, NoMemory}
 use Rattle.journal.specs.declared.line.Line as of_lines
-use Rattle.journal.specs.declared.fault.Unreadable.{Unreadable}
-use Rattle.journal.specs.declared.fault.Unreadable.TheVariants.{NotALine, NoEventBefore, Unsealed, TornLine, Read, NoMemory}
 use Rattle.journal.specs.Faults.{IsCandidate, IsRead}
 use Rattle.journal.specs.Forms.{IsFormed, IsNumbered}
 use Rattle.journal.specs.Lines.{Line, line_data, text_of}

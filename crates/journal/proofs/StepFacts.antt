@@ -2,16 +2,14 @@
 use Rattle.std.proofs.Common.{inl, inr, refl, ◌≡◌, ◌∙◌, ℕ, ◌+◌, List, Bool, true, false, Option, Some, None, IfSome, Result, Ok, Err, sym, subst}
 use Rattle.std.specs.Prelude.{IfErr, IsErrAnd}
 use Rattle.sealed_log.specs.Input.{HasNoBody, ReadsBody}
-use Rattle.sealed_log.specs.declared.input.NoBody.{NoBody}
-use Rattle.sealed_log.specs.declared.input.NoBody.TheVariants as bodies
+use Rattle.sealed_log.specs.declared.unreadable.Unreadable.{Unreadable}
+use Rattle.sealed_log.specs.declared.unreadable.Unreadable.TheVariants.{NotALine, NoEventBefore, Unsealed, TornLine, Read, NoMemory}
 use Rattle.office_policy.specs.History.{Event}
 use Rattle.journal.specs.declared.events.Step.{Step}
 use Rattle.journal.specs.declared.events.Step.TheVariants.{Stands, Passed, Ended}
-use Rattle.journal.specs.declared.fault.Unreadable.{Unreadable}
-use Rattle.journal.specs.declared.fault.Unreadable.TheVariants.{NotALine, NoEventBefore, Unsealed, TornLine, Read, NoMemory}
 use Rattle.journal.specs.declared.reader.Reader.{Reader}
 use Rattle.journal.specs.Reading.{IsTaken, Takes, held}
-use Rattle.journal.specs.Steps.{IsLast, Steps, body_fault}
+use Rattle.journal.specs.Steps.{IsLast, Steps}
 use Rattle.journal.specs.Told.{CannotGoOn, CannotTake, GoesOn, Leaves, Place, Stops, standing}
 use Rattle.journal.proofs.ToldFacts.{IsEnd, IsTextOf, ends, ends_told, line_taken, stays, stops_here}
 
@@ -21,18 +19,19 @@ step_left old new (Ok step) fault is stops = absurd is
 step_left old new (Err e) fault is stops = subst (λ (f : Unreadable). Stops old new.taken f) (sym is) stops
 
 -- no body is read
-cannot_read : (before : ℕ) (held : Option Event) (prior : List ℕ) (old : Option (List ℕ)) (fault : NoBody) → IfSome old (λ bytes. HasNoBody fault prior bytes)
-    → IfSome old (λ bytes. CannotTake (body_fault fault) before held prior bytes)
+cannot_read : (before : ℕ) (held : Option Event) (prior : List ℕ) (old : Option (List ℕ)) (fault : Unreadable) → IfSome old (λ bytes. HasNoBody fault prior bytes)
+    → IfSome old (λ bytes. CannotTake fault before held prior bytes)
 cannot_read before held prior None fault h = tt
-cannot_read before held prior (Some bytes) bodies.Unsealed h = h
-cannot_read before held prior (Some bytes) bodies.TooLong h = inr (inl h)
-cannot_read before held prior (Some bytes) bodies.Torn h = h
-cannot_read before held prior (Some bytes) bodies.Read h = tt
-cannot_read before held prior (Some bytes) (bodies.NoMemory _) h = tt
+cannot_read before held prior (Some bytes) NotALine h = inr (inl h)
+cannot_read before held prior (Some bytes) NoEventBefore h = absurd h
+cannot_read before held prior (Some bytes) Unsealed h = h
+cannot_read before held prior (Some bytes) TornLine h = h
+cannot_read before held prior (Some bytes) Read h = tt
+cannot_read before held prior (Some bytes) (NoMemory _) h = tt
 
-pub no_body : (before : ℕ) (held : Option Event) (prior : List ℕ) (old : Option (List ℕ)) (fault : NoBody) → IfSome old (λ bytes. HasNoBody fault prior bytes)
-    → Stops (record { taken = before; held = held; seal = prior; left = old }) before (body_fault fault)
-no_body before held prior old fault none = stops_here before held prior old (body_fault fault) (cannot_read before held prior old fault none)
+pub no_body : (before : ℕ) (held : Option Event) (prior : List ℕ) (old : Option (List ℕ)) (fault : Unreadable) → IfSome old (λ bytes. HasNoBody fault prior bytes)
+    → Stops (record { taken = before; held = held; seal = prior; left = old }) before fault
+no_body before held prior old fault none = stops_here before held prior old fault (cannot_read before held prior old fault none)
 
 -- so it is left there
 leaves_at : (old new : Place) (result : Result Step Unreadable) (fault : Unreadable) → IsErrAnd result (λ e. e ≡ fault) → CannotGoOn fault old → new.taken ≡ old.taken → new.held ≡ old.held
@@ -41,11 +40,11 @@ leaves_at old new (Ok step) fault is cannot taken held = absurd is
 leaves_at old new (Err e) fault is cannot taken held =
     record { last = old; on = stays old; cannot = subst (λ (f : Unreadable). CannotGoOn f old) (sym is) cannot; taken = taken; held = held }
 
-pub no_body_left : (before : ℕ) (held : Option Event) (prior seal : List ℕ) (old new : Option (List ℕ)) (result : Result Step Unreadable) (fault : NoBody)
-    → IsErrAnd result (λ e. e ≡ body_fault fault) → IfSome old (λ bytes. HasNoBody fault prior bytes)
+pub no_body_left : (before : ℕ) (held : Option Event) (prior seal : List ℕ) (old new : Option (List ℕ)) (result : Result Step Unreadable) (fault : Unreadable)
+    → IsErrAnd result (λ e. e ≡ fault) → IfSome old (λ bytes. HasNoBody fault prior bytes)
     → IfErr result (Leaves (record { taken = before; held = held; seal = prior; left = old }) (record { taken = before; held = held; seal = seal; left = new }))
 no_body_left before held prior seal old new result fault is none =
-    leaves_at (record { taken = before; held = held; seal = prior; left = old }) (record { taken = before; held = held; seal = seal; left = new }) result (body_fault fault) is
+    leaves_at (record { taken = before; held = held; seal = prior; left = old }) (record { taken = before; held = held; seal = seal; left = new }) result fault is
     (cannot_read before held prior old fault none) refl refl
 
 text_there : (old new : Option (List ℕ)) (prior seal text given : List ℕ) (more : Bool) → ReadsBody old new prior seal text (Ok more) → more ≡ true → given ≡ text

@@ -4,9 +4,9 @@ use Rattle.std.specs.Prelude.{IfErr, IsErrAnd}
 use Rattle.std.proofs.lemmas.List.Elements.{All-nil, All-cons, All-head, All-tail}
 use Rattle.sealed_log.specs.Input.{IsBodyOf, IsTooLong, IsUnsealed}
 use Rattle.sealed_log.specs.Sealed.{IsBody, seal_on, sealed_line}
+use Rattle.sealed_log.specs.declared.unreadable.Unreadable.{Unreadable}
+use Rattle.sealed_log.specs.declared.unreadable.Unreadable.TheVariants.{NotALine, NoEventBefore, Unsealed, TornLine, Read, NoMemory}
 use Rattle.office_policy.specs.History.{Event}
-use Rattle.journal.specs.declared.fault.Unreadable.{Unreadable}
-use Rattle.journal.specs.declared.fault.Unreadable.TheVariants.{NotALine, NoEventBefore, Unsealed, TornLine, Read, NoMemory}
 use Rattle.journal.specs.Journal.{IsEntry, taken}
 use Rattle.journal.specs.Lines.{Line, text_of}
 use Rattle.journal.specs.Reading.{IsTaken}

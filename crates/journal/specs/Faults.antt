@@ -1,8 +1,8 @@
 -- What the reader of a line returns; out of memory may come in place of any answer.
 use Rattle.std.specs.Prelude.{◌≡◌, ◌≢◌, ℕ, List, Option, Some, None, Result, Ok, Err}
+use Rattle.sealed_log.specs.declared.unreadable.Unreadable.{Unreadable}
+use Rattle.sealed_log.specs.declared.unreadable.Unreadable.TheVariants.{NotALine, NoMemory}
 use Rattle.journal.specs.declared.line.Line as of_lines
-use Rattle.journal.specs.declared.fault.Unreadable.{Unreadable}
-use Rattle.journal.specs.declared.fault.Unreadable.TheVariants.{NotALine, NoMemory}
 use Rattle.journal.specs.Forms.{IsFormed}
 use Rattle.journal.specs.Lines.{Line, text_of}
 use Rattle.journal.specs.Shown.{shown}

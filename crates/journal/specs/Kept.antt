@@ -5,9 +5,9 @@ use Rattle.office_policy.specs.Happened.{event_meant}
 use Rattle.office_policy.specs.History.{Event, History}
 use Rattle.office_policy.specs.Runs.{with_event}
 use Rattle.office_policy.specs.declared.event.Event as values
+use Rattle.sealed_log.specs.declared.unreadable.Unreadable.{Unreadable}
+use Rattle.sealed_log.specs.declared.unreadable.Unreadable.TheVariants.{NotALine, NoEventBefore, NoMemory}
 use Rattle.journal.specs.declared.kept.Kept.{Kept}
-use Rattle.journal.specs.declared.fault.Unreadable.{Unreadable}
-use Rattle.journal.specs.declared.fault.Unreadable.TheVariants.{NotALine, NoEventBefore, NoMemory}
 use Rattle.journal.specs.declared.writers.Writers.{Writers as TheWriters}
 use Rattle.journal.specs.Journal.{IsEntry, Says, taken}
 use Rattle.journal.specs.Lines.{Line, text_of}

@@ -9,7 +9,6 @@ pub mod Reading
 pub mod Told
 pub mod SealsAt
 pub mod Steps
-pub mod FaultTexts
 pub mod Writers
 pub mod Kept
 pub mod Writing

@@ -1,22 +1,11 @@
 -- What is done with one line of a journal that is read as a stream.
 use Rattle.std.specs.Prelude.{◌≡◌, ◌+◌, ℕ, [], ◌∷◌, Option, None, Result, Ok, Err}
-use Rattle.sealed_log.specs.declared.input.NoBody.{NoBody}
-use Rattle.sealed_log.specs.declared.input.NoBody.TheVariants as bodies
 use Rattle.office_policy.specs.History.{Event}
+use Rattle.sealed_log.specs.declared.unreadable.Unreadable.{Unreadable}
 use Rattle.journal.specs.declared.events.Step.{Step}
 use Rattle.journal.specs.declared.events.Step.TheVariants.{Stands, Passed, Ended}
-use Rattle.journal.specs.declared.fault.Unreadable.{Unreadable}
-use Rattle.journal.specs.declared.fault.Unreadable.TheVariants as unreadable
 use Rattle.journal.specs.Told.{Ends, GoesOn, Place, Stops, placed_meant}
 use Rattle.journal.specs.Told.{standing}
-
--- why no body is read
-abbrev pub body_fault : NoBody → Unreadable
-body_fault bodies.Unsealed = unreadable.Unsealed
-body_fault bodies.TooLong = unreadable.NotALine
-body_fault bodies.Torn = unreadable.TornLine
-body_fault bodies.Read = unreadable.Read
-body_fault (bodies.NoMemory refused) = unreadable.NoMemory refused
 
 -- the event that was held back stands, where one was, at the line of this number
 abbrev pub IsLast : ℕ → Option Event → Step → Type 0

@@ -6,13 +6,13 @@ use Rattle.std.specs.Prelude.{option_and_then, option_map}
 use Rattle.streams.specs.Lines.{NoFeed}
 use Rattle.sealed_log.specs.Input.{IsTooLong, IsUnsealed}
 use Rattle.sealed_log.specs.Sealed.{IsBody, last_seal, no_seal, sealed_line, sealed_lines, seal_of}
+use Rattle.sealed_log.specs.declared.unreadable.Unreadable.{Unreadable}
+use Rattle.sealed_log.specs.declared.unreadable.Unreadable.TheVariants.{NotALine, NoEventBefore, NoMemory}
+use Rattle.sealed_log.specs.declared.unreadable.Unreadable.TheVariants.{Unsealed, TornLine, Read}
 use Rattle.office_policy.specs.History.{Event, History}
 use Rattle.office_policy.specs.Happened.{event_meant}
 use Rattle.journal.specs.declared.events.Events.{Events}
 use Rattle.journal.specs.declared.events.Placed.{Placed}
-use Rattle.journal.specs.declared.fault.Unreadable.{Unreadable}
-use Rattle.journal.specs.declared.fault.Unreadable.TheVariants.{NotALine, NoEventBefore, NoMemory}
-use Rattle.journal.specs.declared.fault.Unreadable.TheVariants.{Unsealed, TornLine, Read}
 use Rattle.journal.specs.Forms.{IsFormed}
 use Rattle.journal.specs.Journal.{IsEntry, IsJournalOf, taken}
 use Rattle.journal.specs.Lines.{Line, text_of}
@@ -145,15 +145,6 @@ CannotTake Unsealed before held prior bytes = IsUnsealed prior bytes
 CannotTake TornLine before held prior bytes = NoFeed bytes × (bytes ≢ [])
 CannotTake Read before held prior bytes = Unit {0}
 CannotTake (NoMemory _) before held prior bytes = Unit {0}
-
--- the input or memory failed, and not the journal
-abbrev pub IsOutside : Unreadable → Type 0
-IsOutside NotALine = ⊥
-IsOutside NoEventBefore = ⊥
-IsOutside Unsealed = ⊥
-IsOutside TornLine = ⊥
-IsOutside Read = Unit {0}
-IsOutside (NoMemory _) = Unit {0}
 
 -- lines that can stand in a journal can be taken, to this number of lines, and the one behind them
 -- can't

@@ -8,11 +8,10 @@ ghost use Rattle.journal.specs.Steps.{IsLast, Steps};
 ghost use Rattle.journal.specs.Told.{Gives, KeepsFault, Leaves, held_at, place};
 ghost use Rattle.journal.specs.Told.{placed_meant, start, without_held};
 
-use crate::fault::Unreadable;
 use crate::reader::Reader;
 use crate::seal_at::SealAt;
 use office_policy::Event;
-use sealed_log::{Seal, no_seal, read_body};
+use sealed_log::{Seal, Unreadable, no_seal, read_body};
 use std::alloc::Global;
 use std::io::BufRead;
 use std::mem::replace;

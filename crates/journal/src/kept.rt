@@ -3,11 +3,10 @@
 ghost use Rattle.std.specs.Prelude.{◌≡◌, List, ℕ, []};
 ghost use Rattle.journal.specs.Kept.{EndsAs, TakesBody, keeps};
 
-use crate::fault::Unreadable;
 use crate::reader::Reader;
 use crate::writers::Writers;
 use office_policy::Event;
-use sealed_log::Keeps;
+use sealed_log::{Keeps, Unreadable};
 use std::alloc::Global;
 
 /// Of the lines of a journal the newest events that can't be struck out any more, of each table one,

@@ -7,12 +7,13 @@ ghost use Rattle.review_policy.specs.declared.answer.Answer.{Answer};
 ghost use Rattle.review_policy.specs.declared.ask.Request.{Request};
 ghost use Rattle.review_policy.specs.declared.fault.Fault.{Fault};
 ghost use Rattle.sealed_log.specs.Sealed.{longest, sealed_with};
+ghost use Rattle.sealed_log.specs.Input.{IsOutside};
+ghost use Rattle.sealed_log.specs.declared.unreadable.Unreadable.{Unreadable};
 ghost use Rattle.office_policy.specs.History.{Event, History};
 ghost use Rattle.office_policy.specs.Lawful.{IsAllowed, IsFounding, IsLawfulHistory};
 ghost use Rattle.office_policy.specs.Ran.{HaveRun};
 ghost use Rattle.office_policy.specs.TablesOf.{tables_of};
 ghost use Rattle.journal.specs.declared.journaled.Journaled.{Journaled};
-ghost use Rattle.journal.specs.declared.fault.Unreadable.{Unreadable};
 ghost use Rattle.journal.specs.Examples.{founding, enrolment, submission, vote, issue};
 ghost use Rattle.journal.specs.Examples.{withdrawal, adoption, hold, release, founding_text};
 ghost use Rattle.journal.specs.Examples.{enrolment_text, submission_text, vote_text};
@@ -24,7 +25,7 @@ ghost use Rattle.journal.specs.Journal.{EndsWithEvent, IsEntry, IsJournalOf, IsS
 ghost use Rattle.journal.specs.Journal.{Says, history_in};
 ghost use Rattle.journal.specs.Journals.{Grows, IsSettled, is_clean, journaled};
 ghost use Rattle.journal.specs.Lines.{Line, done, happened, strike, text_of};
-ghost use Rattle.journal.specs.Told.{Begins, Ends, GoesOn, IsJournalTo, IsOutside, Place};
+ghost use Rattle.journal.specs.Told.{Begins, Ends, GoesOn, IsJournalTo, Place};
 ghost use Rattle.journal.specs.Told.{Stops, Tells, history_told, standing, start, told};
 ghost use Rattle.journal.specs.Writers.{ShowsWriters, writers_of};
 

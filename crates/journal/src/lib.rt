@@ -3,7 +3,6 @@
 #![tactic(auto)]
 
 pub mod events;
-pub mod fault;
 mod journal;
 mod journaled;
 mod kept;
@@ -19,7 +18,6 @@ mod seal_at;
 mod writers;
 
 pub use events::{Events, Placed};
-pub use fault::Unreadable;
 pub use journal::Journal;
 pub use journaled::Journaled;
 pub use kept::Kept;

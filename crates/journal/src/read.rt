@@ -7,12 +7,12 @@ ghost use Rattle.journal.specs.Lines.{text_of};
 ghost use Rattle.journal.specs.Read.{candidate_in};
 ghost use Rattle.journal.specs.Shown.{shown};
 
-use crate::fault::Unreadable;
 use crate::line::Line;
 use crate::part::candidate_of;
 use crate::print::text;
 use json_requests::LineFault;
 use json_tree::{ReadFault, Scratch, Tree};
+use sealed_log::Unreadable;
 use std::alloc::{AllocError, Global};
 
 // What a text may be.

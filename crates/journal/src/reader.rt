@@ -4,10 +4,10 @@ ghost use Rattle.std.specs.Prelude.{◌≡◌, None, option_map};
 ghost use Rattle.office_policy.specs.Happened.{event_meant};
 ghost use Rattle.journal.specs.Reading.{Settles, Takes, held};
 
-use crate::fault::Unreadable;
 use crate::line::Line;
 use crate::read::read_line;
 use office_policy::Event;
+use sealed_log::Unreadable;
 use std::alloc::Global;
 
 /// Reads a journal, the oldest line first. The event of the last line is held back, since the next

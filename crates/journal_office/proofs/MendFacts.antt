@@ -17,6 +17,8 @@ use Rattle.sealed_log.proofs.LogFacts.{all_told}
 use Rattle.sealed_log.proofs.ToldFacts.{told_text}
 use Rattle.sealed_log.specs.declared.fault.LogFault.{LogFault}
 use Rattle.sealed_log.specs.declared.fault.LogFault.TheVariants as logs
+use Rattle.sealed_log.specs.declared.unreadable.Unreadable.{Unreadable}
+use Rattle.sealed_log.specs.declared.unreadable.Unreadable.TheVariants as unreadable
 use Rattle.office_policy.specs.History.{Event, History}
 use Rattle.office_policy.specs.Judging.{LeavesAll}
 use Rattle.office_policy.specs.Lawful.{IsAllowed, IsLawfulHistory}
@@ -26,8 +28,6 @@ use Rattle.office_policy.specs.ShowsEvent.{Shows}
 use Rattle.office_policy.specs.TablesOf.{tables_of}
 use Rattle.office_policy.proofs.ShownFacts.{last_shown, shown_unchanged}
 use Rattle.office_policy.proofs.SurvivalFacts.{left_itself}
-use Rattle.journal.specs.declared.fault.Unreadable.{Unreadable}
-use Rattle.journal.specs.declared.fault.Unreadable.TheVariants as unreadable
 use Rattle.journal.specs.Journal.{EndsWithEvent, Says, history_in}
 use Rattle.journal.specs.Kept.{IsFaulty, IsKept, SaysNone, Settled, with_stood}
 use Rattle.journal.specs.Lines.{Line, happened, strike, text_of}

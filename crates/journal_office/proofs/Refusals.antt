@@ -1,18 +1,18 @@
 -- Where and why no office is built anew.
-use Rattle.std.proofs.Common.{◌≡◌, ◌∙◌, ◌<◌, ℕ, List, [], ◌∷◌, length, Option, Some, None, Result, Ok, Err, inl, inr, sym, refl, ap, ap₂, subst, append-nil}
-use Rattle.std.specs.Prelude.{IsErrAnd, ⊤, option_map, unwrap_or}
+use Rattle.std.proofs.Common.{◌≡◌, ◌∙◌, ◌<◌, ℕ, List, [], ◌∷◌, length, Option, Some, None, inl, inr, sym, refl, ap, ap₂, subst, append-nil}
+use Rattle.std.specs.Prelude.{option_map, unwrap_or}
 use Rattle.sqlite.specs.Held.{Held}
 use Rattle.sqlite.specs.Store.{Ghosts}
 use Rattle.office_policy.specs.History.{Event}
 use Rattle.office_policy.specs.Meaning.{Meaning}
 use Rattle.office_desk.specs.Meant.{meaning_over}
-use Rattle.journal.specs.declared.fault.Unreadable.{Unreadable}
+use Rattle.sealed_log.specs.declared.unreadable.Unreadable.{Unreadable}
 use Rattle.journal.specs.Told.{GoesOn, Leaves, Place, held_at, start}
 use Rattle.journal_office.specs.declared.refused.Refused.{Refused}
 use Rattle.journal_office.specs.declared.refused.Why.{Why}
 use Rattle.journal_office.specs.declared.refused.Why.TheVariants as why
 use Rattle.journal_office.specs.Rebuilt.{HasReplayed, IsRefused, line_behind}
-use Rattle.journal_office.specs.Steps.{Continues, HasBegun, IsFirstRead, IsKeptOut, IsLeft, IsLeftBehind, IsLeftHeld, IsNoFounding, IsNoneRead, IsUnbegun, LeavesAt, LeavesHeld, Stops, StopsBehind}
+use Rattle.journal_office.specs.Steps.{HasBegun, IsFirstRead, IsKeptOut, IsLeft, IsLeftBehind, IsLeftHeld, IsNoFounding, IsNoneRead, IsUnbegun, LeavesAt, LeavesHeld, Stops, StopsBehind}
 use Rattle.journal_office.proofs.Replays.{goes_then}
 
 -- a journal that is left at this place
@@ -125,12 +125,6 @@ module _ {X : Type 0} (m : Meaning X) (bytes : Option (List ℕ)) where
   stops_out here behind after es placed old left line why.NotFounded before told is = absurd is
   stops_out here behind after es placed old left line (why.Unfounded fault) before told is = absurd is
   stops_out here behind after es placed old left line (why.Unreplayed cause) before told is = kept_out here behind es placed old left line (why.Unreplayed cause) before told is
-
-  -- a `?` that leaves with that
-  pub stops_by : (left : X) (count : ℕ) (here : Place) (result : Result ⊤ Refused) (refused : Refused) → IsErrAnd result (λ e. e ≡ refused)
-      → StopsBehind m bytes left here refused.line refused.why → Continues m bytes left count here result
-  stops_by left count here (Ok done) refused is at = absurd is
-  stops_by left count here (Err r) refused is at = inr (subst (λ (r : Refused). StopsBehind m bytes left here r.line r.why) (sym is) at)
 
   -- what is left by it
   stopped_behind : (left : X) (here : Place) (line : ℕ) (w : Why) → StopsBehind m bytes left here line w → IsLeftBehind m bytes left line w

@@ -9,10 +9,11 @@ use Rattle.office_policy.specs.Meaning.{Meaning}
 use Rattle.office_desk.specs.declared.replay.Unreplayed.TheVariants as causes
 use Rattle.office_desk.specs.Meant.{meaning_over}
 use Rattle.office_desk.specs.Replayed.{IsRefused as IsDenied}
-use Rattle.journal.specs.declared.fault.Unreadable.{Unreadable}
-use Rattle.journal.specs.declared.fault.Unreadable.TheVariants as unreadable
+use Rattle.sealed_log.specs.Input.{IsOutside}
+use Rattle.sealed_log.specs.declared.unreadable.Unreadable.{Unreadable}
+use Rattle.sealed_log.specs.declared.unreadable.Unreadable.TheVariants as unreadable
 use Rattle.journal.specs.Journal.{IsJournalOf}
-use Rattle.journal.specs.Told.{GoesOn, IsOutside, Place, history_told, start}
+use Rattle.journal.specs.Told.{GoesOn, Place, history_told, start}
 use Rattle.journal.proofs.FaultFacts.{no_fault}
 use Rattle.journal.proofs.HistoryFacts.{journal_tells, journal_told}
 use Rattle.journal.proofs.JournalFacts.{one_history}

@@ -4,7 +4,7 @@ use Rattle.review_policy.specs.WordTables.{fault_word, rule_word}
 use Rattle.office_founding.specs.Faults.{founding_fault_word}
 use Rattle.office_desk.specs.declared.replay.Unreplayed.{Unreplayed}
 use Rattle.office_desk.specs.declared.replay.Unreplayed.TheVariants as causes
-use Rattle.journal.specs.FaultTexts.{unreadable_word}
+use Rattle.sealed_log.specs.FaultTexts.{unreadable_word}
 use Rattle.journal_office.specs.declared.not_reopened.NotReopened.{NotReopened}
 use Rattle.journal_office.specs.declared.not_reopened.NotReopened.TheVariants as reopening
 use Rattle.journal_office.specs.declared.refused.Refused.{Refused}

@@ -4,8 +4,8 @@ use Rattle.sqlite_disk.specs.declared.Disk.{Ghosts}
 use Rattle.sealed_log.specs.Faults.{IsOfCall}
 use Rattle.sealed_log.specs.declared.fault.LogFault.{LogFault}
 use Rattle.sealed_log.specs.declared.fault.LogFault.TheVariants as logs
-use Rattle.journal.specs.declared.fault.Unreadable.{Unreadable}
-use Rattle.journal.specs.declared.fault.Unreadable.TheVariants as unreadable
+use Rattle.sealed_log.specs.declared.unreadable.Unreadable.{Unreadable}
+use Rattle.sealed_log.specs.declared.unreadable.Unreadable.TheVariants as unreadable
 use Rattle.journal_office.specs.declared.not_reopened.NotReopened.{NotReopened}
 use Rattle.journal_office.specs.declared.not_reopened.NotReopened.TheVariants.{Unsealed, NotALine}
 use Rattle.journal_office.specs.declared.not_reopened.NotReopened.TheVariants.{Changed, OtherJournal}

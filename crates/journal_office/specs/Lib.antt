@@ -6,3 +6,5 @@ pub mod FaultTexts
 pub mod Rebuilt
 pub mod Steps
 pub mod Rebuilding
+pub mod Visits
+pub mod Replaying

@@ -12,8 +12,8 @@ use Rattle.office_policy.specs.Meaning.{Meaning}
 use Rattle.office_desk.specs.declared.replay.Unreplayed.{Unreplayed}
 use Rattle.office_desk.specs.Meant.{meaning_over}
 use Rattle.office_desk.specs.Replayed.{IsReplayed}
-use Rattle.journal.specs.declared.fault.Unreadable.{Unreadable}
-use Rattle.journal.specs.declared.fault.Unreadable.TheVariants as unreadable
+use Rattle.sealed_log.specs.declared.unreadable.Unreadable.{Unreadable}
+use Rattle.sealed_log.specs.declared.unreadable.Unreadable.TheVariants as unreadable
 use Rattle.journal.specs.Told.{CannotGoOn, GoesOn, Place, history_told}
 use Rattle.journal.specs.Told.{standing, start}
 use Rattle.journal_office.specs.declared.refused.Refused.{Refused}

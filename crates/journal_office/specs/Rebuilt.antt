@@ -5,6 +5,8 @@ use Rattle.sqlite.specs.Held.{Held, state}
 use Rattle.sqlite.specs.State.{HasCleanDisk}
 use Rattle.sqlite.specs.Store.{Ghosts}
 use Rattle.sealed_log.specs.Told.{told}
+use Rattle.sealed_log.specs.declared.unreadable.Unreadable.{Unreadable}
+use Rattle.sealed_log.specs.declared.unreadable.Unreadable.TheVariants as unreadable
 use Rattle.office_founding.specs.declared.fault.FoundingFault.{FoundingFault}
 use Rattle.office_founding.specs.declared.fault.FoundingFault.TheVariants.{AlreadyFounded}
 use Rattle.office_founding.specs.Founding.{FailsToFound, first_user, has_table}
@@ -16,8 +18,6 @@ use Rattle.office_desk.specs.declared.replay.Unreplayed.{Unreplayed}
 use Rattle.office_desk.specs.declared.replay.Unreplayed.TheVariants as causes
 use Rattle.office_desk.specs.Meant.{meaning_over}
 use Rattle.office_desk.specs.Replayed.{IsReplayed}
-use Rattle.journal.specs.declared.fault.Unreadable.{Unreadable}
-use Rattle.journal.specs.declared.fault.Unreadable.TheVariants as unreadable
 use Rattle.journal.specs.Journal.{IsJournalOf, IsSealedJournal}
 use Rattle.journal.specs.Told.{CannotGoOn, GoesOn, Place, Tells, history_told, start}
 use Rattle.journal_office.specs.declared.office.Rebuilt.{Rebuilt}

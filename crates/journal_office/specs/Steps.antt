@@ -12,8 +12,8 @@ use Rattle.office_policy.specs.History.{Event, founded}
 use Rattle.office_policy.specs.Lawful.{IsFounding}
 use Rattle.office_policy.specs.Meaning.{Meaning}
 use Rattle.office_desk.specs.Replayed.{HasHappened, IsReplayed}
+use Rattle.sealed_log.specs.declared.unreadable.Unreadable.{Unreadable}
 use Rattle.journal.specs.declared.events.Placed.{Placed}
-use Rattle.journal.specs.declared.fault.Unreadable.{Unreadable}
 use Rattle.journal.specs.Told.{CannotGoOn, Gives, GoesOn, Leaves, Place, Tells, held_at}
 use Rattle.journal.specs.Told.{placed_meant, start}
 use Rattle.journal_office.specs.declared.refused.Refused.{Refused}

@@ -9,6 +9,7 @@ mod opening;
 mod rebuilding;
 mod refused;
 mod replay;
+mod visitor;
 
 pub use mending::mend;
 pub use not_reopened::NotReopened;
@@ -17,3 +18,4 @@ pub use opening::reopen;
 pub use rebuilding::rebuild_as_read;
 pub use refused::{Refused, Why};
 pub use replay::Replay;
+pub use visitor::{Visitor, visit};

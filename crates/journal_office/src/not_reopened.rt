@@ -1,9 +1,8 @@
 //! Why an office and its journal aren't opened again.
 
-use journal::Unreadable;
 use no_memory::NoMemory;
 use review_policy::Fault;
-use sealed_log::LogFault;
+use sealed_log::{LogFault, Unreadable};
 use std::alloc::AllocError;
 use std::error::Error;
 use std::fmt;

@@ -12,15 +12,56 @@ ghost use Rattle.journal.specs.SealsAt.{IsFound, IsSealAsked, IsSeen};
 ghost use Rattle.journal.specs.Told.{place};
 ghost use Rattle.office_desk.specs.Meant.{meaning_over};
 ghost use Rattle.journal_office.specs.Rebuilt.{Rebuilds, Refutes};
+ghost use Rattle.journal_office.specs.Replaying.{HasGoneOn, IsReplaying};
 ghost use Rattle.journal_office.specs.Steps.{Continues, HasBegun};
 
 use crate::refused::Refused;
 use crate::replay::Replay;
+use crate::visitor::{Visitor, visit};
+use journal::Placed;
 use office_desk::Office;
 use sealed_log::Seal;
 use sqlite::{Alter, Connection};
 use std::alloc::Global;
 use std::io::BufRead;
+
+// Who has each event happen again.
+#[derive(Drop)]
+struct Again;
+
+impl<S: Alter, R: BufRead> Visitor<S, R> for Again {
+    type End = Result<(), Refused>;
+
+    ghost is_at = { λ begun from again now. IsReplaying S.Store R.remaining from now };
+
+    ghost ends = { λ begun from again now replayed.
+        HasGoneOn S.Store R.remaining from now replayed };
+
+    fn see(
+        &mut self,
+        alloc: Global,
+        replay: &mut Replay<S, R>,
+        placed: Placed,
+    ) -> Option<Result<(), Refused>> {
+        match replay.happen(alloc, placed) {
+            Ok(()) => None,
+            Err(refused) => Some(Err(refused)),
+        }
+    }
+
+    fn stop(
+        &mut self,
+        _alloc: Global,
+        _replay: &mut Replay<S, R>,
+        refused: Refused,
+    ) -> Result<(), Refused> {
+        Err(refused)
+    }
+
+    fn end(&mut self, _alloc: Global, _replay: &mut Replay<S, R>) -> Result<(), Refused> {
+        Ok(())
+    }
+}
 
 // Has each further event happen again, where the journal could be read on behind the first. Where and
 // why no more does.
@@ -48,10 +89,8 @@ pub(crate) fn replay_rest<S: Alter, R: BufRead>(
     if let Some(refused) = halt {
         return Err(refused);
     }
-    'events: while let Some(placed) = replay.next(alloc)? {
-        replay.happen(alloc, placed)?;
-    }
-    Ok(())
+    let mut again = Again;
+    visit(alloc, replay, &mut again)
 }
 
 /// An office that was built anew from its journal.

@@ -15,7 +15,7 @@ ghost use Rattle.journal_office.specs.Rebuilding.{ends_there};
 use crate::office::{Rebuilt, replay_rest};
 use crate::refused::{Refused, Why};
 use crate::replay::Replay;
-use journal::Unreadable;
+use sealed_log::Unreadable;
 use sqlite::{Alter, Connection};
 use std::alloc::Global;
 use std::io::BufRead;

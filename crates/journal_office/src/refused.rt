@@ -1,8 +1,8 @@
 //! Why no office is built anew from a journal.
 
-use journal::Unreadable;
 use office_desk::Unreplayed;
 use office_founding::FoundingFault;
+use sealed_log::Unreadable;
 use std::error::Error;
 use std::fmt;
 

@@ -18,10 +18,10 @@ ghost use Rattle.journal_office.specs.Steps.{IsNoFounding, IsUnbegun, ReadsFirst
 ghost use Rattle.journal_office.specs.declared.refused.Why.TheVariants.{Unread};
 
 use crate::refused::{Refused, Why};
-use journal::{Events, Placed, Unreadable};
+use journal::{Events, Placed};
 use office_desk::Office;
 use office_policy::Event;
-use sealed_log::Seal;
+use sealed_log::{Seal, Unreadable};
 use sqlite::{Alter, Connection};
 use std::alloc::Global;
 use std::io::BufRead;

@@ -1,7 +1,7 @@
 -- The evidence of an event, looked for event by event.
 use Rattle.std.proofs.Common.{◌≡◌, ◌∙◌, ◌++◌, ℕ, List, [], ◌∷◌, append-nil, true, false, Option, Some, None, Result, Ok, Err, refl, sym, ap, subst}
 use Rattle.std.proofs.lemmas.List.Elements.{All-cons, All-nil}
-use Rattle.std.specs.Prelude.{IfErr, IfOk, IfSome, IsErrAnd, is_none, option_map}
+use Rattle.std.specs.Prelude.{IfErr, IfOk, IfSome, is_none, option_map}
 use Rattle.sqlite.specs.Held.{Held}
 use Rattle.sqlite.specs.Store.{Ghosts}
 use Rattle.review_policy.specs.declared.fault.Fault.{Fault}
@@ -19,7 +19,7 @@ use Rattle.journal.specs.Told.{Ends, GoesOn, Place, Tells, history_told, start}
 use Rattle.journal.proofs.HistoryFacts.{journal_told}
 use Rattle.journal_office.specs.declared.refused.Refused.{Refused}
 use Rattle.journal_office.specs.Rebuilt.{HasReplayed}
-use Rattle.journal_office.specs.Steps.{IsKeptOut, IsLeftBehind}
+use Rattle.journal_office.specs.Steps.{IsKeptOut}
 use Rattle.journal_office.proofs.Refusals.{kept_out, none_behind}
 use Rattle.journal_office.proofs.Replays.{more}
 use Rattle.journal_reports.specs.declared.fault.NoEvidence.{NoEvidence}
@@ -189,12 +189,6 @@ module _ {X : Type 0} (m : Meaning X) (bytes : Option (List ℕ)) where
     -- the founding isn't asked for
     pub none_first : (first : ℕ × Event) → is_wanted p n line first ≡ false → NoneWanted p n line (first ∷ [])
     none_first first other = All-cons (λ placed. is_wanted p n line placed ≡ false) first [] other (All-nil (λ placed. is_wanted p n line placed ≡ false))
-
-    -- a `?` that leaves as the journal can't be read on, or an event doesn't happen again
-    pub left_with : (left : X) (result : Result (List ℕ) NoEvidence) (refused : Refused) → IsErrAnd result (λ e. e ≡ why.Refused refused) → IsLeftBehind m bytes left refused.line refused.why
-        → Searches bytes p n line m left result
-    left_with left (Ok text) refused is behind = absurd is
-    left_with left (Err e) refused is behind = subst (IsInVain bytes p n line m left) (sym is) behind
 
     -- no event is left
     module _ (here end : Place) (es : List (ℕ × Event)) (office : X) (before : HasReplayed bytes m here es office) (ends : Ends here end) (none : NoneWanted p n line es) where

@@ -1,6 +1,6 @@
 -- The lines of events, written one after the other.
 use Rattle.std.proofs.Common.{◌≡◌, ◌∙◌, ◌<◌, ◌-◌, arith, inl, inr, ℕ, List, [], ◌∷◌, ◌++◌, length, take, true, false, Option, Some, None, Result, Ok, Err, refl, sym, ap, ap₂, subst, append_assoc, append-nil}
-use Rattle.std.specs.Prelude.{IsErrAnd, ⊤, if◌then◌else◌}
+use Rattle.std.specs.Prelude.{⊤, if◌then◌else◌}
 use Rattle.std.specs.Io.KnownBytes.{Appends}
 use Rattle.std.proofs.KnownBytes.{Appends-nil, Appends-trans}
 use Rattle.streams.specs.Steps.{AppendsPart}
@@ -15,7 +15,7 @@ use Rattle.office_policy.specs.Meaning.{Meaning}
 use Rattle.office_desk.specs.Looking.{HasLookedBack}
 use Rattle.office_desk.specs.Meant.{meaning_over}
 use Rattle.office_desk.specs.Replayed.{HasHappened}
-use Rattle.journal.specs.declared.fault.Unreadable.{Unreadable}
+use Rattle.sealed_log.specs.declared.unreadable.Unreadable.{Unreadable}
 use Rattle.journal.specs.Told.{Begins, Ends, GoesOn, Place, Tells, held_at, history_told, standing, start}
 use Rattle.journal.proofs.ToldFacts.{begins_first, stays, still_known}
 use Rattle.journal_office.specs.declared.refused.Refused.{Refused}
@@ -297,12 +297,6 @@ module _ {X : Type 0} (m : Meaning X) (bytes : Option (List ℕ)) where
     none_left here after line (halt.Unreplayed cause) at = absurd at
 
     -- ---- all of them
-
-    -- a `?` that leaves with this reason
-    pub left_in : (left : X) (result : Result ⊤ Unwritten) (reason : Unwritten) → IsErrAnd result (λ e. e ≡ reason) → IsStopped bytes m asked from out left reason
-        → WritesAll bytes m asked from out left result
-    left_in left (Ok done) reason is stopped = absurd is
-    left_in left (Err e) reason is stopped = subst (IsStopped bytes m asked from out left) (sym is) stopped
 
     -- the journal is at its end
     pub whole : (here end : Place) (es : List (ℕ × Event)) (old left : X) (behind : ℕ) (wrote : Option (List ℕ)) (result : Result ⊤ Unwritten) → left ≡ old → HasWritten bytes asked from out m old here es behind old

@@ -13,7 +13,7 @@ use Rattle.office_desk.specs.declared.replay.Unreplayed.{Unreplayed}
 use Rattle.office_desk.specs.Looking.{IsMetBetween}
 use Rattle.office_desk.specs.Meant.{meaning_over}
 use Rattle.office_desk.specs.Replayed.{IsReplayed}
-use Rattle.journal.specs.declared.fault.Unreadable.{Unreadable}
+use Rattle.sealed_log.specs.declared.unreadable.Unreadable.{Unreadable}
 use Rattle.journal.specs.Told.{Begins, CannotGoOn, GoesOn, Place, Tells, history_told}
 use Rattle.journal.specs.Told.{standing, start}
 use Rattle.journal_office.specs.declared.refused.Why.{Why}

@@ -7,5 +7,6 @@ pub mod Lines
 pub mod Passing
 pub mod Steps
 pub mod Struck
+pub mod Visiting
 pub mod Whole
 pub mod Writing

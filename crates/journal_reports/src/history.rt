@@ -10,13 +10,14 @@ ghost use Rattle.office_policy.specs.Happened.{event_meant};
 ghost use Rattle.office_policy.specs.History.{Event as TheEvent, did};
 ghost use Rattle.office_policy.specs.Lawful.{IsFounding};
 ghost use Rattle.office_desk.specs.Meant.{meaning_over};
-ghost use Rattle.journal.specs.Told.{Gives, Place, place, placed_meant, start};
+ghost use Rattle.journal.specs.Told.{Place, place, placed_meant, start};
 ghost use Rattle.journal_office.specs.Rebuilt.{HasReplayed};
-ghost use Rattle.journal_office.specs.Steps.{ComesNext, CountsNext, IsFirstRead, IsLeft};
+ghost use Rattle.journal_office.specs.Steps.{ComesNext, IsFirstRead, IsLeft};
 ghost use Rattle.journal_reports.specs.History.{HasWritten, IsUnwritten, IsWritten, last_line};
 ghost use Rattle.journal_reports.specs.History.{shown_of};
 ghost use Rattle.journal_reports.specs.Struck.{struck_lines};
 ghost use Rattle.journal_reports.specs.Lines.{text_in};
+ghost use Rattle.journal_reports.specs.Visiting.{HasWrittenOn, IsWriting};
 ghost use Rattle.journal_reports.specs.Writing.{IsStopped, LooksUp, MakesLine, WritesAll};
 ghost use Rattle.journal_reports.specs.Writing.{WritesFirst};
 ghost use Rattle.journal_reports.specs.Writing.{WritesNext, WritesText};
@@ -28,7 +29,7 @@ use crate::json_line::json_text;
 use crate::line::text;
 use crate::struck::struck;
 use journal::Placed;
-use journal_office::{Refused, Replay};
+use journal_office::{Refused, Replay, Visitor, visit};
 use office_desk::Office;
 use office_policy::{Deed, Event};
 use office_tables::RevisionRow;
@@ -245,32 +246,72 @@ fn write_last<S: Alter, R: BufRead, W: Write>(
     }
 }
 
-// The next event that stands. Where the journal can't be read on, the lines behind that of the last
-// one are written first, with that of the one that is held back.
-fn next_event<S: Alter, R: BufRead, W: Write>(
-    alloc: Global,
-    replay: &mut Replay<S, R>,
+// Who writes the lines of events, each once it has happened again.
+struct Writer<'o, 'a, 'f, W> {
+    output: &'o mut Counted<W>,
+    filter: &'a Filter<'f>,
+    // The line of the last event that has happened again.
     behind: u64,
-    filter: &Filter<'_>,
-    output: &mut Counted<W>,
-) -> Result<Option<Placed>, Unwritten>
-    requires { replay.old.events.fault ≡ None }
-    ensures office { IfOk result (λ _. replay.new.office ≡ replay.old.office) }
-    ensures output { IfOk result (λ _. output.new ≡ output.old) }
-    ensures next { IfOk result (λ found. Gives (place R.remaining replay.old.events)
-        (place R.remaining replay.new.events) (Ok found)) }
-    ensures fault { IfOk result (λ _. replay.new.events.fault ≡ None) }
-    ensures count { IfOk result (CountsNext replay.old.count replay.new.count) }
-    ensures stopped { IfErr result (λ why. (bytes from : Option (List ℕ)) (es : List (ℕ × TheEvent))
-        → HasWritten bytes filter.now from (W.contents output.old.inner) (meaning_over S.Store)
-        replay.old.office (place R.remaining replay.old.events) es behind replay.old.office
-        → last_line es ≡ behind
-        → IsStopped bytes (meaning_over S.Store) filter.now from (W.contents output.new.inner)
-        replay.new.office why) }
-{
-    match replay.next(alloc) {
-        Ok(found) => Ok(found),
-        Err(refused) => Err(write_last(alloc, replay, behind, refused, filter, output)),
+}
+
+// By this clause a caller knows what was written to the output that it lent.
+impl<W> Drop for Writer<'_, '_, '_, W> {
+    fn drop(self)
+        ensures { self.exit.0.now ≡ self.entry.output.now }
+    {
+        let Writer {
+            output: _,
+            filter: _,
+            behind: _,
+        } = self;
+    }
+}
+
+impl<S: Alter, R: BufRead, W: Write> Visitor<S, R> for Writer<'_, '_, '_, W> {
+    type End = Result<(), Unwritten>;
+
+    ghost is_at = { λ begun from writer now.
+        IsWriting S.Store R.remaining W.contents begun from writer now };
+
+    ghost ends = { λ begun from writer now written.
+        HasWrittenOn S.Store R.remaining W.contents begun from writer now written };
+
+    fn see(
+        &mut self,
+        alloc: Global,
+        replay: &mut Replay<S, R>,
+        placed: Placed,
+    ) -> Option<Result<(), Unwritten>> {
+        let filter = self.filter;
+        let behind = self.behind;
+        let line = placed.line;
+        let output = &mut *self.output;
+        match write_next(alloc, replay, behind, placed, filter, output) {
+            Ok(()) => {
+                self.behind = line;
+                None
+            }
+            Err(why) => Some(Err(why)),
+        }
+    }
+
+    fn stop(
+        &mut self,
+        alloc: Global,
+        replay: &mut Replay<S, R>,
+        refused: Refused,
+    ) -> Result<(), Unwritten> {
+        let filter = self.filter;
+        let behind = self.behind;
+        let output = &mut *self.output;
+        Err(write_last(alloc, replay, behind, refused, filter, output))
+    }
+
+    fn end(&mut self, alloc: Global, replay: &mut Replay<S, R>) -> Result<(), Unwritten> {
+        let filter = self.filter;
+        let behind = self.behind;
+        let output = &mut *self.output;
+        write_struck(alloc, filter, behind, replay.taken(), output)
     }
 }
 
@@ -290,13 +331,12 @@ fn write_rest<S: Alter, R: BufRead, W: Write>(
         → WritesAll bytes (meaning_over S.Store) filter.now from (W.contents output.new.inner)
         replay.new.office result }
 {
-    let mut behind = first;
-    'events: while let Some(placed) = next_event(alloc, replay, behind, filter, output)? {
-        let line = placed.line;
-        write_next(alloc, replay, behind, placed, filter, output)?;
-        behind = line;
-    }
-    write_struck(alloc, filter, behind, replay.taken(), output)
+    let mut writer = Writer {
+        output,
+        filter,
+        behind: first,
+    };
+    visit(alloc, replay, &mut writer)
 }
 
 // The line of the founding, where it is asked for, and else no text.

@@ -18,13 +18,14 @@ ghost use Rattle.journal_reports.specs.Evidence.{IsEvidence, IsNoEvidence, endin
 ghost use Rattle.journal_reports.specs.Evidence.{evidence_of, is_wanted, issue_text, none_of};
 ghost use Rattle.journal_reports.specs.Lines.{line_of};
 ghost use Rattle.journal_reports.specs.Steps.{Looks, NoneWanted, Searches};
+ghost use Rattle.journal_reports.specs.Visiting.{HasSearched, IsSearching};
 ghost use Rattle.no_memory.specs.Witness.{witness};
 
 use crate::fault::NoEvidence;
 use crate::history::look_up;
 use crate::line::text;
 use journal::Placed;
-use journal_office::{Refused, Replay};
+use journal_office::{Refused, Replay, Visitor, visit};
 use office_desk::Office;
 use office_policy::{Deed, Event};
 use review_policy::{Effect, ProfileName, Text};
@@ -225,6 +226,55 @@ fn none_of(line: Option<u64>) -> NoEvidence
     }
 }
 
+// Who looks for the event that is asked for.
+#[derive(Drop)]
+struct Seeker<'a> {
+    name: &'a ProfileName,
+    number: u32,
+    line: Option<u64>,
+}
+
+impl<'a, S: Alter, R: BufRead> Visitor<S, R> for Seeker<'a> {
+    type End = Result<Text, NoEvidence>;
+
+    ghost is_at = { λ begun from looking now.
+        IsSearching S.Store R.remaining begun from looking now };
+
+    ghost ends = { λ begun from looking now found.
+        HasSearched S.Store R.remaining begun from now found };
+
+    fn see(
+        &mut self,
+        alloc: Global,
+        replay: &mut Replay<S, R>,
+        placed: Placed,
+    ) -> Option<Result<Text, NoEvidence>> {
+        let name = self.name;
+        let number = self.number;
+        let line = self.line;
+        if is_wanted(&placed, name, number, line) {
+            return Some(give(alloc, replay, placed, name, number, line));
+        }
+        match replay.happen(alloc, placed) {
+            Ok(()) => None,
+            Err(refused) => Some(Err(NoEvidence::Refused(refused))),
+        }
+    }
+
+    fn stop(
+        &mut self,
+        _alloc: Global,
+        _replay: &mut Replay<S, R>,
+        refused: Refused,
+    ) -> Result<Text, NoEvidence> {
+        Err(NoEvidence::Refused(refused))
+    }
+
+    fn end(&mut self, _alloc: Global, _replay: &mut Replay<S, R>) -> Result<Text, NoEvidence> {
+        Err(none_of(self.line))
+    }
+}
+
 // The evidence of the event, where it is among those that haven't happened again yet.
 fn search<S: Alter, R: BufRead>(
     alloc: Global,
@@ -241,13 +291,8 @@ fn search<S: Alter, R: BufRead>(
         → Searches bytes name.now number line (meaning_over S.Store)
         replay.new.office result }
 {
-    'events: while let Some(placed) = replay.next(alloc)? {
-        if is_wanted(&placed, name, number, line) {
-            return give(alloc, replay, placed, name, number, line);
-        }
-        replay.happen(alloc, placed)?;
-    }
-    Err(none_of(line))
+    let mut wanted = Seeker { name, number, line };
+    visit(alloc, replay, &mut wanted)
 }
 
 // The evidence of the event, where only the founding has happened again: before that no revision is

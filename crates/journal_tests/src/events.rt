@@ -1,7 +1,7 @@
 //! Journals, read as streams.
 
-use journal::{Events, Line, Placed, Unreadable, text};
-use sealed_log::{no_seal, seal};
+use journal::{Events, Line, Placed, text};
+use sealed_log::{Unreadable, no_seal, seal};
 use std::alloc::{AllocError, Global};
 use std::io::BufRead;
 use std::test::Fail;

@@ -1,8 +1,8 @@
 //! A journal of many lines, and one of the longest document. The seals are those that Python's
 //! hashlib makes.
 
-use journal::{Events, Line, Placed, Unreadable, text};
-use sealed_log::{Seal, no_seal, seal};
+use journal::{Events, Line, Placed, text};
+use sealed_log::{Seal, Unreadable, no_seal, seal};
 use std::alloc::{AllocError, Global};
 use std::test::Fail;
 use test_doubles::long_texts::longest_escaped;

@@ -1,6 +1,7 @@
 //! Lines of a journal, read and written again.
 
-use journal::{Unreadable, read_line, text};
+use journal::{read_line, text};
+use sealed_log::Unreadable;
 use std::test::Fail;
 
 // A line of each kind, as another printer of JSON writes it.

@@ -1,6 +1,6 @@
 //! Sealed logs, on disks that fail from some call on and then crash, and read as streams.
 
-use sealed_log::{LogFault, NoBody, Nothing, Reader, SealedLog, is_body, no_seal, read_body};
+use sealed_log::{LogFault, Nothing, Reader, SealedLog, Unreadable, is_body, no_seal, read_body};
 use sqlite_disk::{Crash, Disk, Fuse, Memory};
 use std::alloc::Global;
 use std::test::Fail;
@@ -146,7 +146,7 @@ fn both_are_sealed_by_one_write_as_they_are_by_two(rt: HostRuntime) -> Result<()
 }
 
 // What is read of a stream, one body behind another, and why it ends.
-fn read_all(alloc: Global, bytes: &[u8]) -> Result<(Vec<u8>, Option<NoBody>), Fail> {
+fn read_all(alloc: Global, bytes: &[u8]) -> Result<(Vec<u8>, Option<Unreadable>), Fail> {
     let mut input = bytes;
     let mut seal = no_seal();
     let mut body = Vec::new(alloc);
@@ -171,9 +171,9 @@ fn a_stream_tells_what_is_sealed(rt: HostRuntime) -> Result<(), Fail> {
     twice.push_str(TEXT)?;
     for (text, wanted, why) in [
         (TEXT, both, None),
-        (torn.as_str(), both, Some(NoBody::Torn)),
-        (twice.as_str(), both, Some(NoBody::Unsealed)),
-        ("\"one\"\n", "", Some(NoBody::Unsealed)),
+        (torn.as_str(), both, Some(Unreadable::TornLine)),
+        (twice.as_str(), both, Some(Unreadable::Unsealed)),
+        ("\"one\"\n", "", Some(Unreadable::Unsealed)),
         ("", "", None),
     ] {
         let (all, ended) = read_all(alloc, text.as_bytes())?;

@@ -1,6 +1,6 @@
 //! Sealed lines of a stream: where they are as long as a line can be, and where one never ends.
 
-use sealed_log::{NoBody, is_body, no_seal, read_body, seal};
+use sealed_log::{Unreadable, is_body, no_seal, read_body, seal};
 use std::alloc::{AllocError, Global};
 use std::io;
 use std::io::{BufReader, Read};
@@ -35,7 +35,7 @@ fn a_line_that_never_ends_is_read_no_further_than_a_line_can_be(
     let mut last = no_seal();
     let mut body = Vec::new(alloc);
     let read = read_body(alloc, &mut input, &mut last, &mut body);
-    assert_eq!(rt; read, Err(NoBody::TooLong));
+    assert_eq!(rt; read, Err(Unreadable::NotALine));
     // So many, and what was read ahead.
     assert_eq!(rt; input.get_ref().given, 2_098_000);
     Ok(())
@@ -58,7 +58,7 @@ fn assert_read(
     alloc: Global,
     len: usize,
     digits: &str,
-    wanted: Result<bool, NoBody>,
+    wanted: Result<bool, Unreadable>,
 ) -> Result<(), Fail> {
     let text = text_of(alloc, len)?;
     let line = line_of(alloc, text.as_str(), digits)?;
@@ -82,5 +82,5 @@ fn a_line_of_2097152_bytes_is_read_and_none_longer(rt: HostRuntime) -> Result<()
     assert_eq!(rt; LONGEST_BODY + 84, LONGEST);
     assert_read(&rt, alloc, LONGEST_BODY, fits, Ok(true))?;
     let longer = "451360a20653d79cb3495aa06a9e6ab70621d22a818875bfde85146742f372ea";
-    assert_read(&rt, alloc, LONGEST_BODY + 1, longer, Err(NoBody::TooLong))
+    assert_read(&rt, alloc, LONGEST_BODY + 1, longer, Err(Unreadable::NotALine))
 }

@@ -13,7 +13,6 @@ use Rattle.office_desk.specs.declared.replay.Unreplayed.{Unreplayed}
 use Rattle.office_desk.specs.declared.replay.Unreplayed.TheVariants as causes
 use Rattle.office_desk.specs.Meant.{meaning_over}
 use Rattle.office_desk.specs.Replayed.{HasOtherText, IsDeniedBy, IsRefused as IsDenied}
-use Rattle.journal.specs.declared.fault.Unreadable.TheVariants as unreadable
 use Rattle.journal.specs.Journal.{IsJournalOf, IsSealedJournal}
 use Rattle.journal.specs.SealsAt.{IsSealAsked}
 use Rattle.journal.specs.Told.{history_told, start}
@@ -29,6 +28,7 @@ use Rattle.journal_verification.specs.declared.verification.KeptSeal.{KeptSeal}
 use Rattle.journal_verification.specs.KeptSeals.{HaveSeal, line_of}
 use Rattle.journal_verification.specs.Verified.{HasOtherSeal, IsAhead, IsOther, IsVerified}
 use Rattle.sealed_log.specs.Told.{told}
+use Rattle.sealed_log.specs.declared.unreadable.Unreadable.TheVariants as unreadable
 use Rattle.journal_verification.proofs.Differences.{differ}
 
 unsealed : (bytes : Option (List ℕ)) (h : History) (seal : List ℕ) → IfSome bytes (λ text. IsSealedJournal text h seal) → IfSome bytes (λ text. IsJournalOf text h)

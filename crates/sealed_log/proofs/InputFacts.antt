@@ -6,18 +6,18 @@ use Rattle.streams.specs.Lines.{NoFeed, after_line, first_line}
 use Rattle.sealed_log.specs.Input.{HasNoBody, ReadsBody, ReadsText, Unseals}
 use Rattle.sealed_log.specs.Sealed.{IsBody, seal_on, sealed_line}
 use Rattle.sealed_log.specs.Told.{IsSeal, body_in, is_sealed}
-use Rattle.sealed_log.specs.declared.input.NoBody.{NoBody}
-use Rattle.sealed_log.specs.declared.input.NoBody.TheVariants.{NoMemory, Unsealed}
+use Rattle.sealed_log.specs.declared.unreadable.Unreadable.{Unreadable}
+use Rattle.sealed_log.specs.declared.unreadable.Unreadable.TheVariants.{NoMemory, Unsealed}
 use Rattle.sealed_log.proofs.ToldFacts.{IsBody-body_in, whole_line}
 use Rattle.no_memory.specs.Witness.{witness}
 
 -- a `?` that leaves with this fault
-pub left_with : (old new : Option (List ℕ)) (prior seal body : List ℕ) (result : Result Bool NoBody) (fault : NoBody) → IsErrAnd result (λ e. e ≡ fault)
+pub left_with : (old new : Option (List ℕ)) (prior seal body : List ℕ) (result : Result Bool Unreadable) (fault : Unreadable) → IsErrAnd result (λ e. e ≡ fault)
     → IfSome old (λ bytes. HasNoBody fault prior bytes) → ReadsBody old new prior seal body result
 left_with old new prior seal body (Ok more) fault is none = absurd is
-left_with old new prior seal body (Err e) fault is none = subst (λ (f : NoBody). IfSome old (λ bytes. HasNoBody f prior bytes)) (sym is) none
+left_with old new prior seal body (Err e) fault is none = subst (λ (f : Unreadable). IfSome old (λ bytes. HasNoBody f prior bytes)) (sym is) none
 
-pub no_text : (old new : Option (List ℕ)) (text prior : List ℕ) (fault : NoBody) → ReadsText old new text (Err fault) → IfSome old (λ bytes. HasNoBody fault prior bytes)
+pub no_text : (old new : Option (List ℕ)) (text prior : List ℕ) (fault : Unreadable) → ReadsText old new text (Err fault) → IfSome old (λ bytes. HasNoBody fault prior bytes)
 no_text None new text prior fault read = tt
 no_text (Some bytes) new text prior fault read = read prior
 
@@ -68,9 +68,9 @@ pub unsealed_body : (old new : Option (List ℕ)) (text prior seal body : List �
 unsealed_body old new text prior seal body more read is unseals = body_read old new text text prior seal body more read is refl unseals.0 unseals.1
 
 -- or it isn't
-pub no_seal_on : (old new : Option (List ℕ)) (text prior seal body : List ℕ) (more : Bool) (fault : NoBody) → ReadsText old new text (Ok more) → more ≡ true
+pub no_seal_on : (old new : Option (List ℕ)) (text prior seal body : List ℕ) (more : Bool) (fault : Unreadable) → ReadsText old new text (Ok more) → more ≡ true
     → Unseals prior seal text body (Err fault) → IfSome old (λ bytes. HasNoBody fault prior bytes)
 no_seal_on old new text prior seal body more fault read is (inl memory) =
-    subst (λ (f : NoBody). IfSome old (λ bytes. HasNoBody f prior bytes)) (sym memory) (no_memory old prior)
+    subst (λ (f : Unreadable). IfSome old (λ bytes. HasNoBody f prior bytes)) (sym memory) (no_memory old prior)
 no_seal_on old new text prior seal body more fault read is (inr other) =
-    subst (λ (f : NoBody). IfSome old (λ bytes. HasNoBody f prior bytes)) (sym other.0) (not_sealed old new text prior more read is other.1)
+    subst (λ (f : Unreadable). IfSome old (λ bytes. HasNoBody f prior bytes)) (sym other.0) (not_sealed old new text prior more read is other.1)

@@ -10,31 +10,33 @@ use Rattle.sealed_log.specs.Sealed.{IsBody, longest, seal_on, sealed_line}
 use Rattle.sealed_log.specs.Told.{IsSeal, body_in, is_sealed}
 use Rattle.sealed_log.specs.declared.input.Piece.{Piece}
 use Rattle.sealed_log.specs.declared.input.Piece.TheVariants.{Nothing, Part, Whole}
-use Rattle.sealed_log.specs.declared.input.NoBody.{NoBody}
-use Rattle.sealed_log.specs.declared.input.NoBody.TheVariants.{Unsealed, TooLong, Torn, Read}
-use Rattle.sealed_log.specs.declared.input.NoBody.TheVariants.{NoMemory}
+use Rattle.sealed_log.specs.declared.unreadable.Unreadable.{Unreadable}
+use Rattle.sealed_log.specs.declared.unreadable.Unreadable.TheVariants.{NotALine, NoEventBefore}
+use Rattle.sealed_log.specs.declared.unreadable.Unreadable.TheVariants.{NoMemory, Read, TornLine}
+use Rattle.sealed_log.specs.declared.unreadable.Unreadable.TheVariants.{Unsealed}
 use Rattle.no_memory.specs.Witness.{witness}
 
 -- why the input isn't read
-abbrev pub input_fault : ErrorKind → NoBody
+abbrev pub input_fault : ErrorKind → Unreadable
 input_fault OutOfMemory = NoMemory witness
 input_fault _ = Read
 
 -- what it makes of a piece of a line: a read that was interrupted is made again
-abbrev pub piece_of_kind : ErrorKind → Result Piece NoBody
+abbrev pub piece_of_kind : ErrorKind → Result Piece Unreadable
 piece_of_kind Interrupted = Ok Part
 piece_of_kind kind = Err (input_fault kind)
 
--- the input or memory failed
-abbrev pub IsOutside : NoBody → Type 0
+-- the input or memory failed, and not the log
+abbrev pub IsOutside : Unreadable → Type 0
+IsOutside NotALine = ⊥
+IsOutside NoEventBefore = ⊥
 IsOutside Unsealed = ⊥
-IsOutside TooLong = ⊥
-IsOutside Torn = ⊥
+IsOutside TornLine = ⊥
 IsOutside Read = Unit {0}
 IsOutside (NoMemory _) = Unit {0}
 
 -- nothing was read, and it may be tried again; or the input or memory failed
-abbrev pub IsInterruption : Result Piece NoBody → Type 0
+abbrev pub IsInterruption : Result Piece Unreadable → Type 0
 IsInterruption (Ok Part) = Unit {0}
 IsInterruption (Ok Whole) = ⊥
 IsInterruption (Ok Nothing) = ⊥
@@ -58,10 +60,11 @@ pub record IsTooLong (bytes : List ℕ) : Type 0 where
   pub long : longest ≤ length front
 
 -- why no body is read of bytes; when the input fails, or memory, no contract can say
-abbrev pub HasNoBody : NoBody → List ℕ → List ℕ → Type 0
+abbrev pub HasNoBody : Unreadable → List ℕ → List ℕ → Type 0
+HasNoBody NotALine prior bytes = IsTooLong bytes
+HasNoBody NoEventBefore prior bytes = ⊥
 HasNoBody Unsealed prior bytes = IsUnsealed prior bytes
-HasNoBody TooLong prior bytes = IsTooLong bytes
-HasNoBody Torn prior bytes = NoFeed bytes × (bytes ≢ [])
+HasNoBody TornLine prior bytes = NoFeed bytes × (bytes ≢ [])
 HasNoBody Read prior bytes = Unit {0}
 HasNoBody (NoMemory _) prior bytes = Unit {0}
 
@@ -75,7 +78,7 @@ pub record IsPiece (old new : Option (List ℕ)) (before after behind : List ℕ
 -- the line goes on, and isn't too long yet; or its line feed was read; or no byte is left; or the
 -- input or memory failed
 abbrev pub ReadsPiece : (old new : Option (List ℕ)) → (before after : List ℕ)
-    → Result Piece NoBody → Type 0
+    → Result Piece Unreadable → Type 0
 ReadsPiece old new before after (Ok Part) =
     IsPiece old new before after [] × (length after ≤ longest)
 ReadsPiece old new before after (Ok Whole) =
@@ -85,7 +88,7 @@ ReadsPiece old new before after (Ok Nothing) =
 ReadsPiece old new before after (Err fault) = IsOutside fault
 
 -- the first line is read, or no byte is left
-abbrev pub ReadsText : (old new : Option (List ℕ)) → List ℕ → Result Bool NoBody → Type 0
+abbrev pub ReadsText : (old new : Option (List ℕ)) → List ℕ → Result Bool Unreadable → Type 0
 ReadsText old new text (Ok true) =
     IfSome old
     (λ bytes. HasLine bytes × (text ≡ first_line bytes) × (length text < longest)
@@ -96,7 +99,7 @@ ReadsText old new text (Err fault) =
 
 -- the text is that of a sealed line, with this seal, and became its body; or memory ran out, or it
 -- isn't sealed
-abbrev pub Unseals : (prior seal text body : List ℕ) → Result ⊤ NoBody → Type 0
+abbrev pub Unseals : (prior seal text body : List ℕ) → Result ⊤ Unreadable → Type 0
 Unseals prior seal text body (Ok done) = IsSeal prior text seal × (body ≡ body_in text)
 Unseals prior seal text body (Err fault) =
     (fault ≡ NoMemory witness) ⊎ ((fault ≡ Unsealed) × (is_sealed prior text ≡ false))
@@ -111,7 +114,7 @@ pub record IsBodyOf (prior seal body bytes : List ℕ) (new : Option (List ℕ))
 
 -- the body of the first line is read, or no byte is left
 abbrev pub ReadsBody : (old new : Option (List ℕ)) → (prior seal body : List ℕ)
-    → Result Bool NoBody → Type 0
+    → Result Bool Unreadable → Type 0
 ReadsBody old new prior seal body (Ok true) =
     IfSome old (λ bytes. IsBodyOf prior seal body bytes new)
 ReadsBody old new prior seal body (Ok false) =

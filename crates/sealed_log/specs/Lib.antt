@@ -2,6 +2,7 @@ pub mod Sealed
 pub mod Told
 pub mod Whole
 pub mod Faults
+pub mod FaultTexts
 pub mod Disks
 pub mod Lines
 pub mod Reading

@@ -5,52 +5,22 @@ ghost use Rattle.std.specs.IoError.{error_kind};
 ghost use Rattle.sealed_log.specs.Input.{IsInterruption, ReadsBody, ReadsPiece, ReadsText, Unseals};
 ghost use Rattle.sealed_log.specs.Input.{input_fault, piece_of_kind};
 ghost use Rattle.sealed_log.specs.Sealed.{longest};
-ghost use Rattle.sealed_log.specs.declared.input.NoBody.TheVariants.{NoMemory};
-ghost use Rattle.no_memory.specs.Witness.{witness};
 
 use crate::lines::{LONGEST, find_feed};
 use crate::seals::{Seal, body_of, seal_in};
+use crate::unreadable::Unreadable;
 use no_memory::NoMemory;
-use std::alloc::{AllocError, Global};
+use std::alloc::Global;
 use std::io::{BufRead, ErrorKind};
 use std::{cmp, io};
-use thiserror::Error;
-
-/// Why no body is read of a stream.
-#[derive(Clone, Copy, Debug, Drop, PartialEq, Eq, Error)]
-pub enum NoBody {
-    /// The line isn't sealed.
-    #[error("unsealed")]
-    Unsealed,
-    /// The line is longer than a line can be.
-    #[error("too-long")]
-    TooLong,
-    /// The stream ends within the line: it has no line feed.
-    #[error("torn-line")]
-    Torn,
-    /// The input failed. No contract can say when.
-    #[error("read")]
-    Read,
-    /// There was no memory.
-    #[error("memory")]
-    NoMemory(NoMemory),
-}
-
-impl From<AllocError> for NoBody {
-    ghost from_gives = { λ _ fault. fault ≡ NoMemory witness };
-
-    fn from(refused: AllocError) -> NoBody {
-        NoBody::NoMemory(refused.into())
-    }
-}
 
 // Why the input couldn't be read.
-fn fault_of(error: &io::Error) -> NoBody
+fn fault_of(error: &io::Error) -> Unreadable
     ensures { result ≡ input_fault (error_kind error.now) }
 {
     match error.kind() {
-        ErrorKind::OutOfMemory => NoBody::NoMemory(NoMemory::told()),
-        _ => NoBody::Read,
+        ErrorKind::OutOfMemory => Unreadable::NoMemory(NoMemory::told()),
+        _ => Unreadable::Read,
     }
 }
 
@@ -65,7 +35,7 @@ enum Piece {
 }
 
 // What an error makes of a piece: a read that was interrupted is made again.
-fn interruption(error: &io::Error) -> Result<Piece, NoBody>
+fn interruption(error: &io::Error) -> Result<Piece, Unreadable>
     ensures made { result ≡ piece_of_kind (error_kind error.now) }
     ensures outside { IsInterruption result }
 {
@@ -76,7 +46,7 @@ fn interruption(error: &io::Error) -> Result<Piece, NoBody>
 }
 
 // Reads on in a line, by what the input has at hand, and no further than a line can be long.
-fn read_on<R: BufRead>(input: &mut R, text: &mut Vec<u8>) -> Result<Piece, NoBody>
+fn read_on<R: BufRead>(input: &mut R, text: &mut Vec<u8>) -> Result<Piece, Unreadable>
     requires { length text.old.items < longest }
     ensures { ReadsPiece (R.remaining input.old) (R.remaining input.new)
         text.old.items text.new.items result }
@@ -104,26 +74,26 @@ fn read_on<R: BufRead>(input: &mut R, text: &mut Vec<u8>) -> Result<Piece, NoBod
 }
 
 // Reads the text of the next line, without its line feed; false where no byte is left.
-fn read_text<R: BufRead>(input: &mut R, text: &mut Vec<u8>) -> Result<bool, NoBody>
+fn read_text<R: BufRead>(input: &mut R, text: &mut Vec<u8>) -> Result<bool, Unreadable>
     ensures { ReadsText (R.remaining input.old) (R.remaining input.new) text.new.items result }
 {
     text.clear();
     'pieces: for _ in 0..u64::MAX {
         if text.len() == LONGEST {
-            return Err(NoBody::TooLong);
+            return Err(Unreadable::NotALine);
         }
         match read_on(input, text)? {
             Piece::Part => {}
             Piece::Whole => return Ok(true),
             Piece::Nothing if text.is_empty() => return Ok(false),
-            Piece::Nothing => return Err(NoBody::Torn),
+            Piece::Nothing => return Err(Unreadable::TornLine),
         }
     }
-    Err(NoBody::Read)
+    Err(Unreadable::Read)
 }
 
 // Makes the text of a line that is sealed its body, and takes its seal.
-fn unseal(alloc: Global, seal: &mut Seal, text: &mut Vec<u8>) -> Result<(), NoBody>
+fn unseal(alloc: Global, seal: &mut Seal, text: &mut Vec<u8>) -> Result<(), Unreadable>
     ensures { Unseals seal.old seal.new text.old.items text.new.items result }
 {
     match seal_in(alloc, seal, text)? {
@@ -132,7 +102,7 @@ fn unseal(alloc: Global, seal: &mut Seal, text: &mut Vec<u8>) -> Result<(), NoBo
             *seal = next;
             Ok(())
         }
-        None => Err(NoBody::Unsealed),
+        None => Err(Unreadable::Unsealed),
     }
 }
 
@@ -141,13 +111,13 @@ fn unseal(alloc: Global, seal: &mut Seal, text: &mut Vec<u8>) -> Result<(), NoBo
 ///
 /// # Errors
 ///
-/// [`NoBody`] says why none is read.
+/// [`Unreadable`] says why none is read: a line that is too long is none.
 pub fn read_body<R: BufRead>(
     alloc: Global,
     input: &mut R,
     seal: &mut Seal,
     body: &mut Vec<u8>,
-) -> Result<bool, NoBody>
+) -> Result<bool, Unreadable>
     ensures { ReadsBody (R.remaining input.old) (R.remaining input.new) seal.old seal.new
         body.new.items result }
 {

@@ -11,10 +11,11 @@ mod read;
 mod reader;
 mod seals;
 mod through;
+mod unreadable;
 mod written;
 
 pub use fault::LogFault;
-pub use input::{NoBody, read_body};
+pub use input::read_body;
 pub use keeps::{Keeps, Nothing};
 pub use lines::{LONGEST, is_body};
 pub use log::SealedLog;
@@ -22,3 +23,4 @@ pub use read::read_through;
 pub use reader::Reader;
 pub use seals::{Seal, no_seal, seal, seal_in};
 pub use through::Through;
+pub use unreadable::Unreadable;

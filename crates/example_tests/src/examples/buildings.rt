@@ -2,8 +2,8 @@
 
 ghost use Rattle.std.specs.Prelude.{◌∷◌, ◌++◌, [], List, None, Some, Option, ℕ};
 ghost use Rattle.sealed_log.specs.Sealed.{no_seal, sealed_text};
-ghost use Rattle.journal.specs.declared.fault.Unreadable.{Unreadable};
-ghost use Rattle.journal.specs.declared.fault.Unreadable.TheVariants as unreadable;
+ghost use Rattle.sealed_log.specs.declared.unreadable.Unreadable.{Unreadable};
+ghost use Rattle.sealed_log.specs.declared.unreadable.Unreadable.TheVariants as unreadable;
 ghost use Rattle.journal.specs.Told.{IsBegun};
 ghost use Rattle.journal_office.specs.Rebuilding.{IsBuiltTo};
 ghost use Rattle.example_tests.specs.Examples.{Sketch, counting, founds, grown, quiet, shut};

@@ -1,5 +1,5 @@
+use Rattle.sealed_log.specs.declared.unreadable.Unreadable.TheVariants.{Read}
 use Rattle.journal.specs.Told.{place}
-use Rattle.journal.specs.declared.fault.Unreadable.TheVariants.{Read}
 use Rattle.journal.proofs.ToldFacts.{input_leaves}
 use Rattle.journal_office.proofs.Refusals.{left_here}
 use Rattle.journal_office.proofs.replay.Replay.next.Goals as goal

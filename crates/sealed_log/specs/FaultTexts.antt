@@ -1,7 +1,7 @@
--- The words of why a journal can't be read on.
+-- The words of why the lines of a log can't be read on.
 use Rattle.std.specs.Prelude.{ℕ, List, codes}
-use Rattle.journal.specs.declared.fault.Unreadable.{Unreadable}
-use Rattle.journal.specs.declared.fault.Unreadable.TheVariants as unreadable
+use Rattle.sealed_log.specs.declared.unreadable.Unreadable.{Unreadable}
+use Rattle.sealed_log.specs.declared.unreadable.Unreadable.TheVariants as unreadable
 
 abbrev pub unreadable_word : Unreadable → List ℕ
 unreadable_word unreadable.NotALine = codes "not-a-line"

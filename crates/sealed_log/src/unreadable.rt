@@ -1,14 +1,15 @@
-//! Why a journal can't be read on.
+//! Why the lines of a log can't be read on.
 
 ghost use Rattle.std.specs.Prelude.{◌≡◌};
 
 use no_memory::NoMemory;
-use sealed_log::NoBody;
 use std::alloc::AllocError;
 use std::error::Error;
 use std::fmt;
 
-/// Why a journal can't be read on. Its text is one word.
+/// Why the lines of a log that is read as a stream can't be read on. Its text is one word. That a body
+/// is that of no line, or that no event stands before, only says who reads more in the bodies than
+/// that they are sealed.
 #[derive(Clone, Copy, Debug, Drop, PartialEq, Eq)]
 pub enum Unreadable {
     /// The line is too long, its body is that of none, or it says of another line than the one
@@ -19,7 +20,7 @@ pub enum Unreadable {
     NoEventBefore,
     /// The line isn't sealed behind those before it.
     Unsealed,
-    /// The journal ends within the line: it has no line feed.
+    /// The stream ends within the line: it has no line feed.
     TornLine,
     /// The input failed, or gave 2^64 - 1 lines. No contract can say when.
     Read,
@@ -29,7 +30,7 @@ pub enum Unreadable {
 
 impl fmt::Display for Unreadable {
     ghost use Rattle.std.specs.Prelude.{Some};
-    ghost use Rattle.journal.specs.FaultTexts.{unreadable_word};
+    ghost use Rattle.sealed_log.specs.FaultTexts.{unreadable_word};
 
     ghost output = { λ fault. Some (unreadable_word fault) };
 
@@ -48,28 +49,12 @@ impl fmt::Display for Unreadable {
 impl Error for Unreadable {}
 
 impl From<AllocError> for Unreadable {
-    ghost use Rattle.journal.specs.declared.fault.Unreadable.TheVariants.{NoMemory};
+    ghost use Rattle.sealed_log.specs.declared.unreadable.Unreadable.TheVariants.{NoMemory};
     ghost use Rattle.no_memory.specs.Witness.{witness};
 
     ghost from_gives = { λ _ e. e ≡ NoMemory witness };
 
     fn from(refused: AllocError) -> Unreadable {
         Unreadable::NoMemory(refused.into())
-    }
-}
-
-impl From<NoBody> for Unreadable {
-    ghost use Rattle.journal.specs.Steps.{body_fault};
-
-    ghost from_gives = { λ fault e. e ≡ body_fault fault };
-
-    fn from(fault: NoBody) -> Unreadable {
-        match fault {
-            NoBody::Unsealed => Unreadable::Unsealed,
-            NoBody::TooLong => Unreadable::NotALine,
-            NoBody::Torn => Unreadable::TornLine,
-            NoBody::Read => Unreadable::Read,
-            NoBody::NoMemory(witness) => Unreadable::NoMemory(witness),
-        }
     }
 }
