@@ -5,9 +5,9 @@ use Rattle.sealed_log.specs.declared.unreadable.Unreadable.TheVariants as unread
 use Rattle.journal_office.specs.declared.refused.Refused.{Refused}
 use Rattle.journal_office.specs.declared.refused.Why.{Why}
 use Rattle.journal_office.specs.declared.refused.Why.TheVariants as halt
-use Rattle.journal_reports.specs.declared.fault.NoEvidence.TheVariants as evidence
-use Rattle.journal_reports.specs.declared.fault.Unwritten.TheVariants as unwritten
-use Rattle.journal_verification.specs.declared.verification.Unverified.TheVariants as unverified
+use Rattle.journal_office.specs.declared.no_evidence.NoEvidence.TheVariants as evidence
+use Rattle.journal_office.specs.declared.unwritten.Unwritten.TheVariants as unwritten
+use Rattle.journal_office.specs.declared.unverified.Unverified.TheVariants as unverified
 use Rattle.command_host.specs.FailedCalls.{CallFailed}
 use Rattle.command_host.specs.declared.fault.CommandFault.{CommandFault}
 use Rattle.command_host.specs.declared.fault.CommandFault.TheVariants as fault

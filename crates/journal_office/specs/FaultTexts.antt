@@ -1,15 +1,20 @@
--- The texts of why no office is built anew from a journal, or opened again with one.
+-- The texts of why no office is built anew from a journal or opened again with one, and of why there is
+-- no evidence in one, or not its whole history was written.
 use Rattle.std.specs.Prelude.{ℕ, List, [], ◌++◌, ◌==◌, if◌then◌else◌, codes, decimal}
 use Rattle.review_policy.specs.WordTables.{fault_word, rule_word}
 use Rattle.office_founding.specs.Faults.{founding_fault_word}
 use Rattle.office_desk.specs.declared.replay.Unreplayed.{Unreplayed}
 use Rattle.office_desk.specs.declared.replay.Unreplayed.TheVariants as causes
 use Rattle.sealed_log.specs.FaultTexts.{unreadable_word}
+use Rattle.journal_office.specs.declared.no_evidence.NoEvidence.{NoEvidence}
+use Rattle.journal_office.specs.declared.no_evidence.NoEvidence.TheVariants as evidence
 use Rattle.journal_office.specs.declared.not_reopened.NotReopened.{NotReopened}
 use Rattle.journal_office.specs.declared.not_reopened.NotReopened.TheVariants as reopening
 use Rattle.journal_office.specs.declared.refused.Refused.{Refused}
 use Rattle.journal_office.specs.declared.refused.Why.{Why}
 use Rattle.journal_office.specs.declared.refused.Why.TheVariants as why
+use Rattle.journal_office.specs.declared.unwritten.Unwritten.{Unwritten}
+use Rattle.journal_office.specs.declared.unwritten.Unwritten.TheVariants as unwritten
 
 -- why an event doesn't happen again: of a rule that refuses it the number and the word
 abbrev pub unreplayed_text : Unreplayed → List ℕ
@@ -43,3 +48,21 @@ not_reopened_text reopening.OtherJournal = codes "other-journal"
 not_reopened_text (reopening.Office why) = fault_word why
 not_reopened_text reopening.Log = codes "journal"
 not_reopened_text (reopening.NoMemory _) = codes "memory"
+
+-- why there is no evidence
+abbrev pub no_evidence_text : NoEvidence → List ℕ
+no_evidence_text (evidence.Refused refused) = refused_text refused
+no_evidence_text (evidence.Unseen line fault) =
+    codes "line " ++ decimal line ++ codes ": " ++ fault_word fault
+no_evidence_text evidence.NotIssued = codes "not-issued"
+no_evidence_text evidence.NoEvent = codes "no-event"
+no_evidence_text evidence.NoRevision = codes "no-revision"
+no_evidence_text (evidence.NoMemory _) = codes "memory"
+
+-- why not the whole history was written
+abbrev pub unwritten_text : Unwritten → List ℕ
+unwritten_text (unwritten.Refused refused) = refused_text refused
+unwritten_text (unwritten.Unseen line fault) =
+    codes "line " ++ decimal line ++ codes ": " ++ fault_word fault
+unwritten_text unwritten.Write = codes "write"
+unwritten_text (unwritten.NoMemory _) = codes "memory"

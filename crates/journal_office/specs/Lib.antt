@@ -1,3 +1,4 @@
+pub mod DifferenceTexts
 pub mod Faults
 pub mod Left
 pub mod Mending

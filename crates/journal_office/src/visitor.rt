@@ -26,12 +26,7 @@ pub trait Visitor<S: Alter, R: BufRead> {
 
     /// Sees the next event, and has it happen again. Or this is the last that is seen, with what comes
     /// of it all.
-    fn see(
-        &mut self,
-        alloc: Global,
-        replay: &mut Replay<S, R>,
-        placed: Placed,
-    ) -> Option<Self::End>
+    fn see(&mut self, alloc: Global, replay: &mut Replay<S, R>, placed: Placed) -> Option<Self::End>
         ensures events { IfNone result (replay.new.events ≡ replay.old.events) }
         ensures count { IfNone result (replay.new.count ≡ replay.old.count) }
         ensures seen { (begun : Self) (from before : Replay S R)
@@ -41,12 +36,7 @@ pub trait Visitor<S: Alter, R: BufRead> {
             (ends begun from self.new replay.new) };
 
     /// What comes of it all where the journal can't be read on.
-    fn stop(
-        &mut self,
-        alloc: Global,
-        replay: &mut Replay<S, R>,
-        refused: Refused,
-    ) -> Self::End
+    fn stop(&mut self, alloc: Global, replay: &mut Replay<S, R>, refused: Refused) -> Self::End
         ensures { (begun : Self) (from before : Replay S R) → is_at begun from self.old before
             → HasStopped R.remaining before replay.old refused
             → ends begun from self.new replay.new result };

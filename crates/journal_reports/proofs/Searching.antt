@@ -22,8 +22,8 @@ use Rattle.journal_office.specs.Rebuilt.{HasReplayed}
 use Rattle.journal_office.specs.Steps.{IsKeptOut}
 use Rattle.journal_office.proofs.Refusals.{kept_out, none_behind}
 use Rattle.journal_office.proofs.Replays.{more}
-use Rattle.journal_reports.specs.declared.fault.NoEvidence.{NoEvidence}
-use Rattle.journal_reports.specs.declared.fault.NoEvidence.TheVariants as why
+use Rattle.journal_office.specs.declared.no_evidence.NoEvidence.{NoEvidence}
+use Rattle.journal_office.specs.declared.no_evidence.NoEvidence.TheVariants as why
 use Rattle.journal_reports.specs.Evidence.{IsNever, IsNoEvidence, ending_of, evidence_of, is_wanted, issue_text, none_of}
 use Rattle.journal_reports.specs.Lines.{line_of, text_of}
 use Rattle.journal_reports.specs.Steps.{HasSeen, IsInVain, Looks, LooksInVain, NoneWanted, Searches}

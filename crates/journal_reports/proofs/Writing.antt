@@ -25,8 +25,8 @@ use Rattle.journal_office.specs.Rebuilt.{HasReplayed, line_behind}
 use Rattle.journal_office.specs.Steps.{ComesNext, IsKeptOut as IsOut, IsLeft, IsLeftHeld, LeavesAt}
 use Rattle.journal_office.proofs.Comes.{held_number, held_stands, none_stands}
 use Rattle.journal_office.proofs.Replays.{goes_then, more_lawful, more_stands, told_on}
-use Rattle.journal_reports.specs.declared.fault.Unwritten.{Unwritten}
-use Rattle.journal_reports.specs.declared.fault.Unwritten.TheVariants as why
+use Rattle.journal_office.specs.declared.unwritten.Unwritten.{Unwritten}
+use Rattle.journal_office.specs.declared.unwritten.Unwritten.TheVariants as why
 use Rattle.journal_reports.specs.History.{HasWritten, IsCutOff, IsHalted, IsUnwritten, NoneTo, last_behind, last_line, lines_after, lines_to, lines_told, shown_behind, shown_of}
 use Rattle.journal_reports.specs.Lines.{line_of, looked_up, text_in}
 use Rattle.journal_reports.specs.Passing.{Asked, passes}

@@ -20,8 +20,8 @@ use Rattle.journal_office.specs.declared.refused.Why.{Why}
 use Rattle.journal_office.specs.declared.refused.Why.TheVariants as halt
 use Rattle.journal_office.specs.Rebuilt.{HasReplayed, line_behind}
 use Rattle.journal_office.specs.Steps.{ComesNext, IsUnbegun}
-use Rattle.journal_reports.specs.declared.fault.Unwritten.{Unwritten}
-use Rattle.journal_reports.specs.declared.fault.Unwritten.TheVariants as why
+use Rattle.journal_office.specs.declared.unwritten.Unwritten.{Unwritten}
+use Rattle.journal_office.specs.declared.unwritten.Unwritten.TheVariants as why
 use Rattle.journal_reports.specs.Lines.{line_of}
 use Rattle.journal_reports.specs.Passing.{Asked, passes}
 use Rattle.journal_reports.specs.Struck.{struck_lines}

@@ -1,6 +1,5 @@
 pub mod Evidence
 pub mod Examples
-pub mod FaultTexts
 pub mod History
 pub mod Json
 pub mod Lines

@@ -23,13 +23,12 @@ ghost use Rattle.journal_reports.specs.Writing.{WritesFirst};
 ghost use Rattle.journal_reports.specs.Writing.{WritesNext, WritesText};
 ghost use Rattle.no_memory.specs.Witness.{witness};
 
-use crate::fault::Unwritten;
 use crate::filter::Filter;
 use crate::json_line::json_text;
 use crate::line::text;
 use crate::struck::struck;
 use journal::Placed;
-use journal_office::{Refused, Replay, Visitor, visit};
+use journal_office::{Refused, Replay, Unwritten, Visitor, visit};
 use office_desk::Office;
 use office_policy::{Deed, Event};
 use office_tables::RevisionRow;

@@ -21,11 +21,10 @@ ghost use Rattle.journal_reports.specs.Steps.{Looks, NoneWanted, Searches};
 ghost use Rattle.journal_reports.specs.Visiting.{HasSearched, IsSearching};
 ghost use Rattle.no_memory.specs.Witness.{witness};
 
-use crate::fault::NoEvidence;
 use crate::history::look_up;
 use crate::line::text;
 use journal::Placed;
-use journal_office::{Refused, Replay, Visitor, visit};
+use journal_office::{NoEvidence, Refused, Replay, Visitor, visit};
 use office_desk::Office;
 use office_policy::{Deed, Event};
 use review_policy::{Effect, ProfileName, Text};

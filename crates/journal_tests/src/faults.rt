@@ -17,7 +17,10 @@ fn push_lines(text: &mut String) -> Result<(), AllocError> {
     let (not_a_line, nothing) = (Unreadable::NotALine, Unreadable::NoEventBefore);
     let (unsealed, torn) = (Unreadable::Unsealed, Unreadable::TornLine);
     let (read, memory) = (Unreadable::Read, Unreadable::NoMemory(witness));
-    writeln!(text, "{not_a_line} {nothing} {unsealed} {torn} {read} {memory}")
+    writeln!(
+        text,
+        "{not_a_line} {nothing} {unsealed} {torn} {read} {memory}"
+    )
 }
 
 const WORDS: &str = "\

@@ -82,5 +82,11 @@ fn a_line_of_2097152_bytes_is_read_and_none_longer(rt: HostRuntime) -> Result<()
     assert_eq!(rt; LONGEST_BODY + 84, LONGEST);
     assert_read(&rt, alloc, LONGEST_BODY, fits, Ok(true))?;
     let longer = "451360a20653d79cb3495aa06a9e6ab70621d22a818875bfde85146742f372ea";
-    assert_read(&rt, alloc, LONGEST_BODY + 1, longer, Err(Unreadable::NotALine))
+    assert_read(
+        &rt,
+        alloc,
+        LONGEST_BODY + 1,
+        longer,
+        Err(Unreadable::NotALine),
+    )
 }

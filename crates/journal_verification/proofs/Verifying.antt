@@ -21,7 +21,7 @@ use Rattle.journal_office.specs.declared.refused.Why.{Why}
 use Rattle.journal_office.specs.declared.refused.Why.TheVariants as why
 use Rattle.journal_office.specs.Rebuilt.{IsRebuilt, IsRefused, IsUnreplayed, Refutes}
 use Rattle.journal_office.proofs.Replays.{goes_then}
-use Rattle.journal_verification.specs.declared.difference.Difference.{Difference}
+use Rattle.journal_office.specs.declared.difference.Difference.{Difference}
 use Rattle.journal_verification.specs.Compared.{Differs}
 use Rattle.journal_verification.specs.Refused.{IsFirstUnlawful, IsNotRebuilt, IsWrongAt}
 use Rattle.journal_verification.specs.declared.verification.KeptSeal.{KeptSeal}

@@ -1,5 +1,4 @@
 pub mod Compared
-pub mod DifferenceTexts
 pub mod Different
 pub mod Differing
 pub mod KeptSeals

@@ -16,12 +16,12 @@ ghost use Rattle.journal_verification.specs.Same.{TellsTable};
 ghost use Rattle.journal_verification.specs.SideBySide.{AreIdle, ComparesBoth};
 ghost use Rattle.journal_verification.specs.Texts.{rowids_text, rows_text};
 
-use crate::difference::Difference;
 use crate::reading::read_on;
 use crate::rows::Rising;
 use crate::schema::is_same_schema;
 use crate::side_by_side::readings_differ;
-use crate::table::{FURTHER, Table};
+use crate::table::{FURTHER, rowids, rows};
+use journal_office::{Difference, Table};
 use memory_database::want_of_memory;
 use no_memory::NoMemory;
 use office_rows::fault_of_error;
@@ -70,7 +70,7 @@ fn have_rowids<S: Alter>(conn: &mut Connection<S>, table: Table) -> Result<bool,
         → (state S.Store conn.old).now.schema ≡ office_schema → IfErr result
         (HasFailed (state S.Store conn.old) (state S.Store conn.new)) }
 {
-    match conn.query(table.rowids(), &[]) {
+    match conn.query(rowids(table), &[]) {
         Ok(mut rows) => rowids_rise(&mut rows),
         Err(error) => Err(fault_of_error(error)),
     }
@@ -90,7 +90,7 @@ fn office_differs<S: Alter, T: Alter>(
         IsAt S.Store (rows_text table) built.old.conn.now []
         → TellsRows S.Store T.Store table first second difference) }
 {
-    match office.query(table.rows(), &[]) {
+    match office.query(rows(table), &[]) {
         Ok(mut rows) => readings_differ(alloc, built, &mut rows, table),
         Err(error) => Err(fault_of_error(error)),
     }
@@ -108,7 +108,7 @@ fn rows_differ<S: Alter, T: Alter>(
     ensures { ComparesBoth S.Store T.Store built.old built.new office.old office.new
         result (TellsRows S.Store T.Store table) }
 {
-    match built.query(table.rows(), &[]) {
+    match built.query(rows(table), &[]) {
         Ok(mut rows) => office_differs(alloc, &mut rows, office, table),
         Err(failed) => Err(Fault::NoMemory(want_of_memory(failed))),
     }

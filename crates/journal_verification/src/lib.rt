@@ -2,7 +2,6 @@
 #![tactic(auto)]
 
 mod compare;
-mod difference;
 mod naming;
 mod reading;
 mod rows;
@@ -11,6 +10,4 @@ mod side_by_side;
 mod table;
 mod verification;
 
-pub use difference::Difference;
-pub use table::Table;
-pub use verification::{KeptSeal, Unverified, Verified, verify};
+pub use verification::{KeptSeal, Verified, verify};

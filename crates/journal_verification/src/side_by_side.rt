@@ -15,11 +15,11 @@ ghost use Rattle.journal_verification.specs.SideBySide.{AreIdle, ReadsBoth};
 ghost use Rattle.journal_verification.specs.Texts.{key_width, rows_text};
 ghost use Rattle.no_memory.specs.Witness.{witness};
 
-use crate::difference::Difference;
 use crate::naming::named;
 use crate::reading::{read_on, read_rest};
 use crate::rows::earlier;
-use crate::table::Table;
+use crate::table::key_width;
+use journal_office::{Difference, Table};
 use memory_database::want_of_memory;
 use no_memory::NoMemory;
 use review_policy::Fault;
@@ -39,7 +39,7 @@ fn row_differs(
         × IsNamed table row d)) }
     ensures cause { IfErr result (λ fault. fault ≡ Fault.NoMemory witness) }
 {
-    let Some(row) = earlier(left, right, table.key_width()) else {
+    let Some(row) = earlier(left, right, key_width(table)) else {
         return Ok(None);
     };
     let difference = named(alloc, table, row)?;

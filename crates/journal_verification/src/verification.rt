@@ -12,8 +12,7 @@ ghost use Rattle.journal_verification.specs.Verified.{IsUnverified, IsUnverified
 ghost use Rattle.journal_verification.specs.Verified.{IsVerified};
 
 use crate::compare::compare;
-use crate::difference::Difference;
-use journal_office::{Refused, rebuild};
+use journal_office::{Difference, Unverified, rebuild};
 use memory_database::open_in_memory;
 use review_policy::Fault;
 use sealed_log::Seal;
@@ -38,19 +37,6 @@ pub struct KeptSeal {
     /// The number of the line, from 1.
     pub line: u64,
     pub seal: Seal,
-}
-
-/// Why an office isn't verified.
-#[derive(Debug, Drop)]
-pub enum Unverified {
-    /// No office is built anew from the journal.
-    Refused(Refused),
-    /// The journal hasn't the seal that was kept, or has fewer lines.
-    OtherSeal,
-    /// The office differs from the one of the journal.
-    Differs(Difference),
-    /// One of the two can't be read, or there is no memory.
-    Fault(Fault),
 }
 
 // The line of which the seal is asked for.
