@@ -1,7 +1,7 @@
 -- The evidence of an event: the review sheet of a revision as it was just before that.
 use Rattle.std.specs.Prelude.{◌≡◌, ◌++◌, ◌∷◌, [], ◌==◌, ℕ, List, Bool, true, false, is_none, All}
 use Rattle.std.specs.Prelude.{Option, Some, None, Result, Ok, Err, IfSome, codes, decimal}
-use Rattle.std.specs.Prelude.{option_map}
+use Rattle.std.specs.Prelude.{option_map, unwrap_or}
 use Rattle.sqlite.specs.Held.{Held}
 use Rattle.sqlite.specs.Store.{Ghosts}
 use Rattle.review_policy.specs.declared.fault.Fault.{Fault}
@@ -19,7 +19,7 @@ use Rattle.journal_office.specs.Rebuilt.{HasReplayed, IsRefused}
 use Rattle.journal_office.specs.declared.no_evidence.NoEvidence.{NoEvidence}
 use Rattle.journal_office.specs.declared.no_evidence.NoEvidence.TheVariants as why
 use Rattle.journal_reports.specs.Lines.{line_of}
-use Rattle.office_policy.specs.Callers.{doer_of}
+use Rattle.office_policy.specs.Callers.{caller_of}
 
 -- the event is the one that is asked for: that of the line, where one is given, and else the issue
 -- of the revision
@@ -27,10 +27,14 @@ abbrev pub is_wanted : ProfileName → ℕ → (line : Option ℕ) → (placed :
 is_wanted p n None placed = issues p n placed.1
 is_wanted p n (Some line) placed = placed.0 == line
 
+-- who issued the revision
+abbrev pub issuer_of : Event → List ℕ
+issuer_of e = unwrap_or (caller_of e) []
+
 -- who issued the revision, and the line of the journal that says so
 abbrev pub issue_text : (placed : ℕ × Event) → List ℕ
 issue_text placed =
-    codes "issuer: " ++ doer_of placed.1 ++ codes "\nline: " ++ decimal placed.0 ++ codes "\n"
+    codes "issuer: " ++ issuer_of placed.1 ++ codes "\nline: " ++ decimal placed.0 ++ codes "\n"
 
 -- what stands below the sheet: that of an issue; of the event of a line what `history` says of it,
 -- after the history before it

@@ -2,8 +2,7 @@
 use Rattle.std.specs.Prelude.{ℕ, List, Bool, true, false, ◌&&◌, Option, Some, None, nat_le}
 use Rattle.std.specs.Str.{bytes_eq}
 use Rattle.review_policy.specs.declared.ask.ProfileName.{ProfileName}
-use Rattle.office_policy.specs.Callers.{doer_of}
-use Rattle.office_policy.specs.History.{Event, founded, enrolled, submitted, voted}
+use Rattle.office_policy.specs.History.{Event, did, founded, enrolled, submitted, voted}
 use Rattle.office_policy.specs.History.{on_revision, on_profile}
 
 -- the profile that an event is about, where it is about one
@@ -38,10 +37,11 @@ abbrev pub is_about : Option (List ℕ) → Event → Bool
 is_about None e = true
 is_about (Some profile) e = is_named profile (profile_of e)
 
--- the event was done by this user, where one is asked for
+-- the event was done by this user, where one is asked for; a founding by the one who is founded
 abbrev pub is_by : Option (List ℕ) → Event → Bool
 is_by None e = true
-is_by (Some user) e = bytes_eq user (doer_of e)
+is_by (Some user) (founded name team digest listed) = bytes_eq user name
+is_by (Some user) (did caller deed) = bytes_eq user caller
 
 -- which events are asked for: those of a team, those about profiles of a name, those that a user
 -- did, and those from a line on; and whether as JSON

@@ -1,6 +1,6 @@
 //! Which events are shown.
 
-ghost use Rattle.std.specs.Prelude.{◌≡◌, ℕ, List, option_map};
+ghost use Rattle.std.specs.Prelude.{◌≡◌, ℕ, List, Some, option_map};
 ghost use Rattle.office_policy.specs.Happened.{event_meant};
 ghost use Rattle.office_policy.specs.History.{did};
 ghost use Rattle.journal.specs.Told.{placed_meant};
@@ -121,12 +121,22 @@ fn is_about(profile: Option<&Word>, event: &Event) -> bool
     }
 }
 
+// Whether this user did it; a founding is done by the one who is founded.
+fn is_by_user(user: &Word, event: &Event) -> bool
+    ensures { result ≡ is_by (Some user.now) (event_meant event.now) }
+{
+    match event {
+        Event::Founded { user: first, .. } => user.is(first),
+        Event::Did { caller, .. } => user.is(caller),
+    }
+}
+
 // Whether this user did it, where one is named.
 fn is_by(user: Option<&Word>, event: &Event) -> bool
     ensures { result ≡ is_by (option_map (λ user. user.now) user.entry) (event_meant event.now) }
 {
     match user {
-        Some(user) => user.is(event.doer()),
+        Some(user) => is_by_user(user, event),
         None => true,
     }
 }

@@ -15,7 +15,8 @@ ghost use Rattle.journal.specs.Told.{GoesOn, Place, place, placed_meant};
 ghost use Rattle.journal_office.specs.Rebuilt.{HasReplayed};
 ghost use Rattle.journal_office.specs.Steps.{HasBegun};
 ghost use Rattle.journal_reports.specs.Evidence.{IsEvidence, IsNoEvidence, ending_of};
-ghost use Rattle.journal_reports.specs.Evidence.{evidence_of, is_wanted, issue_text, none_of};
+ghost use Rattle.journal_reports.specs.Evidence.{evidence_of, is_wanted, issue_text, issuer_of};
+ghost use Rattle.journal_reports.specs.Evidence.{none_of};
 ghost use Rattle.journal_reports.specs.Lines.{line_of};
 ghost use Rattle.journal_reports.specs.Steps.{Looks, NoneWanted, Searches};
 ghost use Rattle.journal_reports.specs.Visiting.{HasSearched, IsSearching};
@@ -29,7 +30,7 @@ use office_desk::Office;
 use office_policy::{Deed, Event};
 use review_policy::{Effect, ProfileName, Text};
 use sqlite::{Alter, Connection};
-use std::alloc::{AllocError, Global};
+use std::alloc::Global;
 use std::io::BufRead;
 
 // Whether it is the same profile.
@@ -81,12 +82,22 @@ fn is_wanted(placed: &Placed, name: &ProfileName, number: u32, line: Option<u64>
     }
 }
 
+// Who issued the revision.
+fn issuer_of(event: &Event) -> &str
+    ensures { result.now ≡ issuer_of (event_meant event.now) }
+{
+    match event {
+        Event::Founded { .. } => "",
+        Event::Did { caller, .. } => caller.as_str(),
+    }
+}
+
 // Who issued the revision, and the line that says so.
 fn issue_text(alloc: Global, placed: &Placed) -> Result<Text, NoEvidence>
     ensures text { IfOk result (λ text. text ≡ issue_text (placed_meant placed.now)) }
     ensures none { IfErr result (λ why. why ≡ NoEvidence.NoMemory witness) }
 {
-    let issuer = placed.event.doer().as_str();
+    let issuer = issuer_of(&placed.event);
     let line = placed.line;
     match format!(in alloc; "issuer: {issuer}\nline: {line}\n") {
         Ok(text) => Ok(Text::new(text)),

@@ -86,11 +86,6 @@ abbrev pub caller_of : Event → Option (List ℕ)
 caller_of (founded name team digest listed) = None
 caller_of (did caller deed) = Some caller
 
--- the name of who did it: the caller, or who was founded
-abbrev pub doer_of : Event → List ℕ
-doer_of (founded name team digest listed) = name
-doer_of (did caller deed) = caller
-
 -- what happened, if anything did, was asked for by the user of this name
 abbrev pub IsAskedBy : List ℕ → Option Event → Type 0
 IsAskedBy name None = Unit {0}

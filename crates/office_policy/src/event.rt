@@ -1,9 +1,5 @@
 //! What happens in an office, as values of a program.
 
-ghost use Rattle.std.specs.Prelude.{◌≡◌};
-ghost use Rattle.office_policy.specs.Callers.{doer_of};
-ghost use Rattle.office_policy.specs.Happened.{event_meant};
-
 use crate::deed::Deed;
 use cap_sets::Caps;
 use review_policy::Word;
@@ -24,16 +20,4 @@ pub enum Event {
         caller: Word,
         deed: Deed,
     },
-}
-
-impl Event {
-    /// The name of who did it: the caller, or who was founded.
-    pub fn doer(&self) -> &Word
-        ensures { result.now ≡ doer_of (event_meant self.now) }
-    {
-        match self {
-            Event::Founded { user, .. } => user,
-            Event::Did { caller, .. } => caller,
-        }
-    }
 }
