@@ -133,7 +133,7 @@ export const DOCUMENT_FAULTS = [
  */
 export const STORE_FAULTS = [
   ['memory', 'memory was refused before the request was handled or while it was', 'ask again; give the program more'],
-  ['disk', 'the disk below the tables or the journal failed, or is shut since it did; or SQLite refused the write',
+  ['disk', 'the disk below the tables or the journal failed, or had failed and shut them; or SQLite refused the write',
     'look after the disk, and start `serve` anew'],
   ['full', 'there was no room for what was to be written, or a value was too big for a table', 'make room, and ask again'],
   ['not-an-office', "the tables are no office's: another program changed them",
