@@ -93,7 +93,8 @@ struct Exchanges<'w, N> {
     words: &'w ServeWords<'w>,
 }
 
-// The two are above `Network`, and named since a ghost member sees its own bounds alone.
+// `PassClock` and `PassNet` are above `Network`, and named since a ghost member sees its own bounds
+// alone.
 impl<N: Network + PassClock + PassNet, O: Write> Serves<(), Counted<O>> for Exchanges<'_, N> {
     ghost can_serve = { λ _ _. ⊤ };
 
@@ -112,10 +113,8 @@ impl<N: Network + PassClock + PassNet, O: Write> Serves<(), Counted<O>> for Exch
     }
 }
 
-/// Serves exchanges with the office at a path, with its journal where the words name one, and
-/// closes it, also where that failed. Where closing fails too, the first fault is told. The port is
-/// bound last, so that nothing is heard where there is no office. An office that has a journal goes on
-/// without only where that is said.
+/// Serves exchanges with the office at a path, by [`serve_named`]. The port is bound last, so that
+/// nothing is heard where there is no office.
 pub fn serve_http<H: Host, O: Write>(
     host: &Outside<'_, H>,
     alloc: Global,

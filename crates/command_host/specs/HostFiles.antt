@@ -16,7 +16,8 @@ abbrev pub IsFoundIn : {D : Type 0} {g : disk.Ghosts D} → Image → Held (File
 IsFoundIn image conn =
     HasCleanDisk (file_state conn) → IsOpened conn × FindsIn image (file_state conn)
 
--- a database was closed with a mark or as it was marked, and these, its files, have all of it
+-- a database was closed with a mark or as it was marked, and these files, where they are clean, have
+-- all of it
 abbrev pub IsClosedInto : {D : Type 0} {g : disk.Ghosts D} → Held (FileStore D g) → Option ℕ
     → Files D → Type 0
 IsClosedInto {g = g} conn mark files = AreClean g files.log files.db → IsCopiedAs conn mark files

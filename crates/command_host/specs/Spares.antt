@@ -2,7 +2,7 @@
 use Rattle.std.specs.Prelude.{◌≡◌, ◌⊎◌, ◌<◌, ℕ, Result, Ok, Err, ⊤}
 use Rattle.std.specs.declared.io.Error.{Error}
 
--- it was asked how many bytes it has, and it was removed where it has none; else it was left
+-- the log was asked how many bytes it has, and removed where it has none; else it was left
 abbrev pub IsCleared : (Measured : Result ℕ Error → Type 0) (Cleared : Result ⊤ Error → Type 0)
     → Result ⊤ Error → Type 0
 IsCleared Measured Cleared result =

@@ -296,8 +296,8 @@ module _ {O J : Type 0} (m : Meaning O) (w : Writing J) where
   IsStruckOr r old new (Some told) = IsStray r old new told
       ⊎ ((fault : Fault) × (told ≡ answers.Fault fault) × IsHalfStruck old new fault)
 
-  -- the event of the last line, which this request asked for, was taken back as far as that could be; what
-  -- is told, where it still stands
+  -- the event of the last line, which this request asked for, was taken back as far as that could be;
+  -- where it still stands, this is told
   pub record IsTakenBack (r : Request) (old new : Journaled O J) (told : Option Answer)
       : Type 0 where
     pub leaves : LeavesAll m old.office new.office

@@ -13,8 +13,7 @@ use Rattle.journal_office.specs.Rebuilt.{HasReplayed}
 use Rattle.journal_office.specs.Steps.{Continues, HasBegun}
 
 module _ {S R : Type 0} (g : Ghosts S) (remaining : R → Option (List ℕ)) (from now : Replay S R) where
-  -- what can be known of the journal where only its first event had happened again at first, and the
-  -- office stands of all that were taken since
+  -- if only the first event had happened again when it began, the office stands of all that were taken
   pub record IsReplaying : Type 0 where
     pub replayed : (bytes : Option (List ℕ)) (first : ℕ × Event)
         → HasBegun (meaning_over g) bytes from.office (place remaining from.events) first None

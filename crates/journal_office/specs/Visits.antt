@@ -1,4 +1,4 @@
--- What has come of a journal where who sees its events is called.
+-- What was taken of a journal when its visitor is called.
 use Rattle.std.specs.Prelude.{◌≡◌, ◌+◌, ◌-◌, ◌^◌, ◌<◌, [], ◌∷◌, ℕ, List, Option, None}
 use Rattle.office_policy.specs.History.{Event}
 use Rattle.journal.specs.SealsAt.{IsSeen}
@@ -8,7 +8,7 @@ use Rattle.journal_office.specs.declared.replay.Replay.{Replay}
 use Rattle.journal_office.specs.Steps.{IsLeft}
 
 module _ {S R : Type 0} (remaining : R → Option (List ℕ)) (old new : Replay S R) where
-  -- the office is the same; what was taken of the journal is seen, if what was taken before is
+  -- the office is the same; the seal that is asked for is kept of what was taken, if it was before
   pub record HasRead : Type 0 where
     pub office : new.office ≡ old.office
     pub seen : (bytes : Option (List ℕ))

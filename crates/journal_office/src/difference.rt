@@ -7,7 +7,7 @@ use std::fmt;
 
 /// Where an office differs from the one of its journal: its schema, or a row, by its table and its
 /// key, which one of the two has and the other hasn't, or has otherwise; or its mark. Its text is the
-/// table and the key.
+/// table and the key, or one word.
 #[derive(Debug, Drop)]
 pub enum Difference {
     /// The tables and indexes aren't those of an office.

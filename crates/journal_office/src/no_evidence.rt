@@ -1,4 +1,4 @@
-//! Why a journal has no evidence of an issue.
+//! Why a journal has no evidence of an event.
 
 use crate::refused::Refused;
 use no_memory::NoMemory;

@@ -12,8 +12,8 @@ use sqlite::Alter;
 use std::alloc::Global;
 use std::io::BufRead;
 
-/// Who sees the events of a journal, one after the other, each while the office is that of the events
-/// before it.
+/// Who sees the events of a journal, one after the other, each before it has happened again. That the
+/// office is that of the events before is for `is_at` to say.
 pub trait Visitor<S: Alter, R: BufRead> {
     /// What comes of it all.
     type End;
@@ -24,8 +24,8 @@ pub trait Visitor<S: Alter, R: BufRead> {
     /// What they are at the end, and what comes of it all.
     ghost ends: { Self → Replay S R → Self → Replay S R → Self.End → Type 0 };
 
-    /// Sees the next event, and has it happen again. Or this is the last that is seen, with what comes
-    /// of it all.
+    /// Sees the next event, and may have it happen again. Or this is the last that is seen, with what
+    /// comes of it all.
     fn see(&mut self, alloc: Global, replay: &mut Replay<S, R>, placed: Placed) -> Option<Self::End>
         ensures events { IfNone result (replay.new.events ≡ replay.old.events) }
         ensures count { IfNone result (replay.new.count ≡ replay.old.count) }

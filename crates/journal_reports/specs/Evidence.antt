@@ -27,7 +27,7 @@ abbrev pub is_wanted : ProfileName → ℕ → (line : Option ℕ) → (placed :
 is_wanted p n None placed = issues p n placed.1
 is_wanted p n (Some line) placed = placed.0 == line
 
--- who issued the revision
+-- who asked for the event: of an issue, who issued
 abbrev pub issuer_of : Event → List ℕ
 issuer_of e = unwrap_or (caller_of e) []
 

@@ -17,8 +17,8 @@ use Rattle.journal_reports.specs.Writing.{WritesAll}
 module _ {S R : Type 0} (g : Ghosts S) (remaining : R → Option (List ℕ)) where
   -- ---- for evidence
 
-  -- who looks is looking for the same as when that began. If no event was asked for then, none is
-  -- yet
+  -- who looks is looking for the same as when that began. An office of events of which none is asked
+  -- for is still one of such
   pub record IsSearching (begun : Seeker) (from : Replay S R) (looking : Seeker) (now : Replay S R)
       : Type 0 where
     pub same : looking ≡ begun
@@ -29,7 +29,7 @@ module _ {S R : Type 0} (g : Ghosts S) (remaining : R → Option (List ℕ)) whe
         × HasReplayed bytes (meaning_over g) (place remaining now.events) all now.office
         × NoneWanted begun.name.now begun.number begun.line all
 
-  -- the evidence, or why there is none, if no event was asked for when it began
+  -- the evidence, or why there is none, where the office was of events of which none is asked for
   abbrev pub HasSearched : (begun : Seeker) → (from now : Replay S R)
       → Result (List ℕ) NoEvidence → Type 0
   HasSearched begun from now result = (bytes : Option (List ℕ)) (es : List (ℕ × Event))

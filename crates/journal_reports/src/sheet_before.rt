@@ -82,7 +82,7 @@ fn is_wanted(placed: &Placed, name: &ProfileName, number: u32, line: Option<u64>
     }
 }
 
-// Who issued the revision.
+// Who asked for the event: of an issue, who issued.
 fn issuer_of(event: &Event) -> &str
     ensures { result.now ≡ issuer_of (event_meant event.now) }
 {

@@ -60,7 +60,8 @@ JournalFile held = NamedDisk (DatabaseFile held) HostName
 
 module _ {T U : Type 0} (held : start.Ghosts T) (journal : start.Ghosts U)
     (g : disk.Ghosts (DatabaseFile held)) (log : disk.Ghosts (JournalFile journal)) where
-  -- what is known of databases in such files: they show what these held, and are closed into them
+  -- what is known of databases in such files: they show what these held, and a close gives back files
+  -- that have all of it
   abbrev pub host_databases
       : databases.Ghosts (HostFiles T) (Held (FileStore (DatabaseFile held) g)) (ClosedFiles T held)
   host_databases = record {

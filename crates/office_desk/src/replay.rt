@@ -180,7 +180,7 @@ fn has_text(deed: &Deed, change: &Change) -> bool
     }
 }
 
-// Has what a user did, who asks so, happen again where the policy allows it.
+// Has what a user did happen again, by what it asks, where the policy allows that.
 fn replay_deed<S: Alter>(
     alloc: Global,
     conn: &mut Connection<S>,

@@ -31,7 +31,7 @@ each_event p =
     ∷ on_profile sue Release p
     ∷ []
 
--- a request of each shape, of a profile of the team blue
+-- a request of each shape, of the team blue or a profile of it where it names one
 abbrev pub each_shape : Vec ℕ Global → List Ask
 each_shape document =
     ask.Enrol (codes "new") blue 0 (1 ∷ [])

@@ -71,7 +71,7 @@ abbrev pub asks_security : Need → Bool
 asks_security One = false
 asks_security TwoWithSecurity = true
 
--- the rules of a request behind the first one, which refuses a caller whom nobody knows
+-- all rules of a request: the first refuses a caller whom nobody knows, and these stand behind it
 abbrev pub behind_caller : (unknown : Bool) → List (Rule × Bool) → List (Rule × Bool)
 behind_caller unknown rules = (CallerUnknown, unknown) ∷ rules
 

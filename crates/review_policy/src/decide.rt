@@ -75,8 +75,8 @@ pub fn no_rule_refuses_passing_facts()
         ≡ false }
 {}
 
-// The first rule that refuses a caller who is known, by its place behind the rule that asks for that
-// alone. Each rule stands with whether it refuses.
+// The first rule that refuses a known caller, by its place behind rule 1, which asks for that. Each
+// rule stands with whether it refuses.
 fn first_denial(rules: &[(Rule, bool)]) -> Result<(), Denial>
     requires { length rules.now ≤ 254 }
     ensures { result ≡ known_denial rules.now }

@@ -111,7 +111,7 @@ fn unseal(alloc: Global, seal: &mut Seal, text: &mut Vec<u8>) -> Result<(), Unre
 ///
 /// # Errors
 ///
-/// [`Unreadable`] says why none is read: a line that is too long is none.
+/// [`Unreadable`] says why none is read: `NotALine` of a line that is too long, never `NoEventBefore`.
 pub fn read_body<R: BufRead>(
     alloc: Global,
     input: &mut R,

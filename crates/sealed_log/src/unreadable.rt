@@ -7,9 +7,8 @@ use std::alloc::AllocError;
 use std::error::Error;
 use std::fmt;
 
-/// Why the lines of a log that is read as a stream can't be read on. Its text is one word. That a body
-/// is that of no line, or that no event stands before, only says who reads more in the bodies than
-/// that they are sealed.
+/// Why the lines of a log that is read as a stream can't be read on. Its text is one word. Who only
+/// reads sealed bodies never tells `NoEventBefore`, and `NotALine` just of a line that is too long.
 #[derive(Clone, Copy, Debug, Drop, PartialEq, Eq)]
 pub enum Unreadable {
     /// The line is too long, its body is that of none, or it says of another line than the one

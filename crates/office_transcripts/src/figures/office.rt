@@ -93,7 +93,7 @@ fn take_in_memory(rt: &HostRuntime, step: Step, sizes: &Sizes) -> Result<()> {
     take_filled(rt, open_in_memory(rt.alloc())?, step, sizes)
 }
 
-// Takes a step over a file that was opened from this moment on, and closes it.
+// Says how long a file took to open since this moment, takes a step over it and closes it.
 fn take_and_close<D: Disk + Drop>(
     rt: &HostRuntime,
     start: &Instant,
