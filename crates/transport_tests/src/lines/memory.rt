@@ -94,7 +94,8 @@ fn hand_in(alloc: Global, office: &mut TrialOffice) -> Result<Option<bool>, Fail
 }
 
 // With each allocation refused in turn, as by `rt try --test --fail-alloc N`: one line is answered as out of memory, or
-// the desk stops with the lines before it answered, and what was handled stands.
+// the desk stops with the lines before it answered, and what was handled stands. With ample memory none is, as
+// `lines::conversations` sees.
 #[test]
 fn out_of_memory_is_answered_and_leaves_what_was_handled(rt: HostRuntime) -> Result<(), Fail> {
     let alloc = rt.alloc();

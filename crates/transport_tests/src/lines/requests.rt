@@ -71,7 +71,8 @@ fn without(alloc: Global, lines: &str, at: usize) -> Result<String, AllocError> 
 const MEMORY: &str = r#"{"answer":"fault","word":"memory"}"#;
 
 // With each allocation refused in turn, as by `rt try --test --fail-alloc N`: one request is answered that there is no memory, and
-// the others, and the tables, are as without it; or all is as with ample memory.
+// the others, and the tables, are as without it; or all is as with ample memory. With that it is, as
+// `each_request_of_a_list_is_answered_on_those_before_it` sees.
 #[test]
 fn a_request_of_a_list_that_is_refused_memory_is_as_none(rt: HostRuntime) -> Result<(), Fail> {
     let alloc = rt.alloc();
