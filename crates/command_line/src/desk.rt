@@ -1,10 +1,10 @@
 //! The command `desk`.
 
-ghost use Rattle.std.specs.Prelude.{◌≡◌, IfOk, IfSome, IfNone, false, codes};
+ghost use Rattle.std.specs.Prelude.{◌≡◌, IfOk, IfSome, IfNone, codes};
 ghost use Rattle.command_line.specs.Commands.{desk_app};
 ghost use Rattle.command_line.specs.Meaning.{AsksFor, values_of};
 ghost use Rattle.command_line.specs.Parts.{AddsCommand};
-ghost use Rattle.command_line.specs.Refusals.{NoJournalGiven, NoneAskedFor};
+ghost use Rattle.command_line.specs.Refusals.{NoneAskedFor};
 
 use crate::command::Command;
 use crate::journal::journal_of;

@@ -1,6 +1,6 @@
 //! The command `evidence`.
 
-ghost use Rattle.std.specs.Prelude.{◌≡◌, ℕ, IfOk, IfSome, IfNone, false, codes};
+ghost use Rattle.std.specs.Prelude.{◌≡◌, ℕ, IfOk, IfSome, IfNone, codes};
 ghost use Rattle.command_line.specs.Commands.{evidence_app};
 ghost use Rattle.command_line.specs.Meaning.{AsksFor, IsLineGiven, IsNumberIn, value_of, values_of};
 ghost use Rattle.command_line.specs.Parts.{AddsCommand};

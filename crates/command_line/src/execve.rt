@@ -1,6 +1,6 @@
 //! The command `execve`.
 
-ghost use Rattle.std.specs.Prelude.{◌≡◌, IfOk, IfSome, IfNone, None, false, codes};
+ghost use Rattle.std.specs.Prelude.{◌≡◌, IfOk, IfSome, IfNone, None, codes};
 ghost use Rattle.clap.specs.Words.{first_of};
 ghost use Rattle.command_line.specs.Commands.{execve_app};
 ghost use Rattle.command_line.specs.Meaning.{AsksFor, values_of};

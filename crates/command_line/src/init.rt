@@ -1,6 +1,6 @@
 //! The command `init`.
 
-ghost use Rattle.std.specs.Prelude.{◌≡◌, [], IfOk, IfSome, IfNone, false, codes, map, unwrap_or};
+ghost use Rattle.std.specs.Prelude.{◌≡◌, [], IfOk, IfSome, IfNone, codes, map, unwrap_or};
 ghost use Rattle.clap.specs.Words.{all_of};
 ghost use Rattle.command_line.specs.Commands.{init_app};
 ghost use Rattle.command_line.specs.Meaning.{AsksFor, values_of};

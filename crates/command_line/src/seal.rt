@@ -1,6 +1,6 @@
 //! The seal that a line of a journal had, as N:HEX.
 
-ghost use Rattle.std.specs.Prelude.{◌≡◌, IfNone, IfSome, Some, true};
+ghost use Rattle.std.specs.Prelude.{◌≡◌, IfNone, IfSome, Some};
 ghost use Rattle.std.specs.List.{list_all};
 ghost use Rattle.command_line.specs.Meaning.{IsKeptSeal, IsNumberIn, IsSealText, is_seal_digit};
 ghost use Rattle.command_line.specs.Refusals.{NoKeptSeal, NoNumberIn};

@@ -1,6 +1,6 @@
 //! The command `serve`.
 
-ghost use Rattle.std.specs.Prelude.{◌≡◌, ℕ, IfOk, IfSome, IfNone, false, codes};
+ghost use Rattle.std.specs.Prelude.{◌≡◌, ℕ, IfOk, IfSome, IfNone, codes};
 ghost use Rattle.command_line.specs.Commands.{serve_app};
 ghost use Rattle.command_line.specs.Meaning.{AreRequests, AsksFor, IsNumberIn};
 ghost use Rattle.command_line.specs.Meaning.{value_of, values_of};

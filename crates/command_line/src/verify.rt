@@ -1,6 +1,6 @@
 //! The command `verify`.
 
-ghost use Rattle.std.specs.Prelude.{◌≡◌, IfOk, IfSome, IfNone, false, codes};
+ghost use Rattle.std.specs.Prelude.{◌≡◌, IfOk, IfSome, IfNone, codes};
 ghost use Rattle.clap.specs.Words.{first_of};
 ghost use Rattle.command_line.specs.Commands.{verify_app};
 ghost use Rattle.command_line.specs.Meaning.{AsksFor, IsSealGiven, values_of};

@@ -5,7 +5,7 @@ ghost use Rattle.clap.specs.Words.{FailsBy, app_of, subcommand_rows_of};
 ghost use Rattle.command_line.specs.Commands.{commands, faults_in, found_in, office_app};
 ghost use Rattle.command_line.specs.Meaning.{AsksFor, IsCommand, values_of};
 ghost use Rattle.command_line.specs.Parts.{AreCommands};
-ghost use Rattle.command_line.specs.Refusals.{IsRefused, NamesNoCommand, NoneAskedFor};
+ghost use Rattle.command_line.specs.Refusals.{IsRefused, NoneAskedFor};
 ghost use Rattle.command_line.specs.Words.{AskFor, AskForNone};
 
 use crate::check::{add_check, check_of};

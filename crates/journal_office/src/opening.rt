@@ -1,16 +1,6 @@
 //! An office is opened again with its journal.
 
-ghost use Rattle.std.specs.Prelude.{◌≡◌, ◌≢◌, ℕ, IfOk, IfErr, IsTrue};
-ghost use Rattle.sealed_log.specs.Disks.{LeavesTail};
-ghost use Rattle.sealed_log.specs.Log.{bodies_of};
-ghost use Rattle.sealed_log.specs.Sealed.{longest, sealed_text};
-ghost use Rattle.office_policy.specs.History.{History};
-ghost use Rattle.office_policy.specs.Judging.{LeavesAll};
-ghost use Rattle.office_policy.specs.Lawful.{IsLawfulHistory};
-ghost use Rattle.office_desk.specs.Meant.{meaning_over};
-ghost use Rattle.journal.specs.Journals.{goes_on};
-ghost use Rattle.journal.specs.Logs.{in_log};
-ghost use Rattle.journal_office.specs.Mending.{IsMended, SaysOther, TellsOf};
+ghost use Rattle.std.specs.Prelude.{IfOk, IfErr};
 ghost use Rattle.journal_office.specs.Opening.{IsHandedBack, IsReopened};
 
 use crate::mending::mend;

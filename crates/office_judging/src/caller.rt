@@ -2,7 +2,6 @@
 
 ghost use Rattle.std.specs.Prelude.{◌≡◌, Some, ◌||◌};
 ghost use Rattle.review_policy.specs.declared.answer.Reply.TheVariants.{Me};
-ghost use Rattle.office_tables.specs.Lists.{holds_role};
 ghost use Rattle.office_policy.specs.Facts.{sees_every_team};
 
 use office_tables::UserRow;

@@ -2,15 +2,14 @@
 
 ghost use Rattle.std.specs.Prelude.{◌↔◌, ◌≡◌, ◌≢◌, ◌+◌, ◌≤◌, length, None, IfErr, IfOk, IfSome};
 ghost use Rattle.std.specs.Prelude.{IsTrue, OnOk, option_copied};
-ghost use Rattle.std.specs.Path.{path_buf_bytes};
 ghost use Rattle.sqlite.specs.Held.{state};
-ghost use Rattle.memory_database.specs.Copies.{over_copy, IsCopyOf};
+ghost use Rattle.memory_database.specs.Copies.{over_copy};
 ghost use Rattle.office_store.specs.Shown.{IsIdle};
 ghost use Rattle.database_head.specs.Extents.{head_bytes, most_bytes};
 ghost use Rattle.reading_commands.specs.Copied.{extent_of, fault_of_read, front_of, Gave};
 ghost use Rattle.reading_commands.specs.Copied.{GaveLog, GaveNone};
 ghost use Rattle.reading_commands.specs.Copied.{HaveGiven, HaveGivenNone, IsCopiedOffice};
-ghost use Rattle.reading_commands.specs.Copied.{IsNoCopiedOffice, IsOfReading, IsUncopied};
+ghost use Rattle.reading_commands.specs.Copied.{IsNoCopiedOffice, IsOfReading};
 ghost use Rattle.reading_commands.specs.Reading.{HasReadOn};
 
 use crate::place::Place;

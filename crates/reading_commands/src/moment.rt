@@ -1,6 +1,6 @@
 //! Whether files changed while they were read.
 
-ghost use Rattle.std.specs.Prelude.{◌↔◌, ◌≡◌, IsTrue};
+ghost use Rattle.std.specs.Prelude.{◌↔◌, ◌≡◌};
 ghost use Rattle.reading_commands.specs.Moments.{IsMoment, WasNoted};
 
 use crate::place::Place;

@@ -1,6 +1,6 @@
 //! What a crash left of a journal, and an office that is opened again with it.
 
-ghost use Rattle.std.specs.Prelude.{◌≡◌, [], ◌∷◌, ℕ, true, false, IsTrue};
+ghost use Rattle.std.specs.Prelude.{◌≡◌, [], ◌∷◌, ℕ, true, false};
 ghost use Rattle.sqlite.specs.Held.{Held};
 ghost use Rattle.sealed_log.specs.declared.log.SealedLog.{SealedLog};
 ghost use Rattle.journal.specs.Lines.{happened, strike, text_of};

@@ -1,6 +1,6 @@
 //! What is told of the revisions of a profile, whose texts differ.
 
-ghost use Rattle.std.specs.Prelude.{◌≡◌, ◌∷◌, [], Some, None, codes, filter, replicate};
+ghost use Rattle.std.specs.Prelude.{◌≡◌, ◌∷◌, [], Some, codes, filter, replicate};
 ghost use Rattle.std.specs.Prelude.{true, false};
 ghost use Rattle.review_policy.specs.declared.answer.Reply.TheVariants as reply;
 ghost use Rattle.office_policy.specs.Examples.{open_row};

@@ -2,7 +2,6 @@
 
 ghost use Rattle.std.specs.Prelude.{◌≡◌, [], ◌∷◌, Some, None, false};
 ghost use Rattle.sqlite.specs.Held.{Held, state};
-ghost use Rattle.sealed_log.specs.Sealed.{seal_of, sealed_text};
 ghost use Rattle.office_policy.specs.Handled.{Stands};
 ghost use Rattle.office_policy.specs.TablesOf.{tables_of};
 ghost use Rattle.office_store.specs.Shown.{Shows, office_row};
