@@ -11,3 +11,4 @@ pub mod HandedBack
 pub mod Verified
 pub mod Approved
 pub mod Built
+pub mod Unwritten

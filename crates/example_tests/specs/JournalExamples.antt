@@ -1,7 +1,7 @@
 -- Small values by which definitions of journals are tried: a journal that is its lines, the lines
 -- of a founding, and an office with a log.
 use Rattle.std.specs.Prelude.{◌≡◌, ◌-◌, ◌^◌, ℕ, min, List, [], ◌∷◌, length, Bool, true, false}
-use Rattle.std.specs.Prelude.{IsTrue, if◌then◌else◌, Option, Some}
+use Rattle.std.specs.Prelude.{IsTrue, if◌then◌else◌, Option, None, Some}
 use Rattle.std.proofs.Common.{refl}
 use Rattle.sqlite.specs.Held.{Held}
 use Rattle.sqlite.specs.Store.{Ghosts}
@@ -18,6 +18,9 @@ use Rattle.journal.specs.Lines.{happened, strike, done, text_of}
 use Rattle.journal.specs.Told.{Place}
 use Rattle.journal.specs.Writing.{Writing}
 use Rattle.journal.specs.declared.journaled.Journaled.{Journaled}
+use Rattle.journal_office.specs.declared.refused.Refused.{Refused}
+use Rattle.journal_office.specs.declared.refused.Why.{Why}
+use Rattle.journal_reports.specs.Passing.{Asked}
 use Rattle.journal_verification.specs.declared.verification.KeptSeal.{KeptSeal}
 use Rattle.journal_verification.specs.declared.verification.Verified.{Verified}
 use Rattle.example_tests.specs.Examples.{Sketch, counting, enrols, founds}
@@ -118,6 +121,14 @@ verified events lines = record { events = events; seal = seal_of first_line; lin
 -- the seal of bodies, kept as that of a line
 abbrev pub kept_seal : (line : ℕ) → List (List ℕ) → KeptSeal
 kept_seal line bodies = record { line = line; seal = seal_of bodies }
+
+-- all events are asked for, as text
+abbrev pub all_asked : Asked
+all_asked = record { team = None; profile = None; user = None; since = 0; json = false }
+
+-- why it isn't read on, with the line
+abbrev pub refused_at : (line : ℕ) → Why → Refused
+refused_at line why = record { line = line; why = why }
 
 -- ---- an office with a log
 

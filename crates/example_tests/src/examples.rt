@@ -4,6 +4,7 @@ pub mod approvals;
 pub mod buildings;
 pub mod causes;
 pub mod filters;
+pub mod histories;
 pub mod journals;
 pub mod leavings;
 pub mod openings;
