@@ -37,8 +37,8 @@ pub founded_as : {S : Type 0} (g : Ghosts S) (described : Described) (founding :
     → IsFoundedAs g described office
 founded_as g described founding office is by = subst (λ (d : Described). IsFoundedAs g d office) (sym is) by
 
-module _ (Done : (old new : Held MemoryStore) → Type 0) (Stops : CommandFault → (old new : Held MemoryStore) → Type 0) (old new : Held MemoryStore) where
-  pub tried : IsFoundedAs over_memory trial_founding old → (result : Result (Unit {0}) CommandFault) → OnOk result (Done old new)
-      → IfErr result (λ why. Stops why old new) → HasTried Done Stops result
-  tried founded (Ok done) all stops = record { old = old; new = new; founded = founded; done = all }
-  tried founded (Err why) all stops = inr (record { old = old; new = new; founded = founded; done = stops })
+module _ (Done : (old new : Held MemoryStore) → Type 0) (Stops : CommandFault → (old new : Held MemoryStore) → Type 0) (old : Held MemoryStore) where
+  pub tried : IsFoundedAs over_memory trial_founding old → (result : Result (Unit {0}) CommandFault) → OnOk result ((new : Held MemoryStore) × Done old new)
+      → IfErr result (λ why. (new : Held MemoryStore) × Stops why old new) → HasTried Done Stops result
+  tried founded (Ok done) all stops = record { old = old; new = all.0; founded = founded; done = all.1 }
+  tried founded (Err why) all stops = inr (record { old = old; new = stops.0; founded = founded; done = stops.1 })

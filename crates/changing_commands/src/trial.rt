@@ -1,8 +1,12 @@
 //! The trial desk.
 
-ghost use Rattle.std.specs.Prelude.{◌≡◌, IfErr, IfOk};
+ghost use Rattle.std.specs.Prelude.{◌≡◌, IfErr, IfOk, OnOk};
+ghost use Rattle.sqlite.specs.Held.{Held, state};
 ghost use Rattle.memory_database.specs.MemoryStore.{over_memory};
-ghost use Rattle.changing_commands.specs.Foundings.{IsFoundedAs};
+ghost use Rattle.office_store.specs.Shown.{IsIdle};
+ghost use Rattle.office_desk.specs.Meant.{meaning_over};
+ghost use Rattle.changing_commands.specs.Foundings.{IsFoundedAs, IsFoundedBy};
+ghost use Rattle.changing_commands.specs.Lines.{HasAnswered, HasStopped};
 ghost use Rattle.changing_commands.specs.Trials.{trial_founding, IsTrial};
 ghost use Rattle.streams.specs.CallsLeft.{HasCallsLeft, HasFaultsLeft};
 ghost use Rattle.no_memory.specs.Witness.{witness};
@@ -13,6 +17,8 @@ use crate::lines::{DeskEnded, answer_lines};
 use command_host::{CommandFault, FoundingWordsFault};
 use memory_database::{MemoryStore, open_in_memory, want_of_memory};
 use office_desk::Office;
+use office_founding::FoundingFault;
+use sqlite::{Alter, Connection};
 use std::alloc::Global;
 use std::io::{Read, Write};
 use streams::Counted;
@@ -30,6 +36,20 @@ fn trial_founding(alloc: Global) -> Result<Founding, FoundingWordsFault>
     founding_of(alloc, "root", "office", DIGEST, &["CAP_SYS_ADMIN"])
 }
 
+// The office of a founding over a connection to an empty store, which is let go of where there is none.
+fn found_over<S: Alter + Drop>(
+    conn: Connection<S>,
+    founding: &Founding,
+) -> Result<Office<S>, FoundingFault>
+    requires { IsIdle (state S.Store conn) }
+    ensures { IfOk result (IsFoundedBy S.Store founding.now) }
+{
+    match found_in(conn, founding) {
+        Ok(office) => Ok(office),
+        Err((failed, _)) => Err(failed),
+    }
+}
+
 // The office of that founding, in memory.
 fn trial_office(alloc: Global) -> Result<Office<MemoryStore>, CommandFault>
     ensures founded { IfOk result (IsFoundedAs over_memory trial_founding) }
@@ -44,10 +64,29 @@ fn trial_office(alloc: Global) -> Result<Office<MemoryStore>, CommandFault>
         Ok(conn) => conn,
         Err(refused) => return Err(CommandFault::NoMemory(refused.into())),
     };
-    match found_in(conn, &founding) {
+    match found_over(conn, &founding) {
         Ok(office) => Ok(office),
-        Err((failed, _)) => Err(CommandFault::NoMemory(want_of_memory(failed))),
+        Err(failed) => Err(CommandFault::NoMemory(want_of_memory(failed))),
     }
+}
+
+// Answers the lines of a reader at an office, which is let go of.
+fn answer_over<S: Alter + Drop, R: Read, W: Write>(
+    mut office: Office<S>,
+    alloc: Global,
+    input: &mut Counted<R>,
+    output: &mut Counted<W>,
+) -> DeskEnded
+    requires reads { HasCallsLeft input.old }
+    requires writes { HasFaultsLeft output.old }
+    ensures answered { OnOk result.ended ((left : Held S) × HasAnswered W.contents
+        (meaning_over S.Store) (R.remaining input.old.inner) output.old output.new result.witness
+        office left) }
+    ensures stopped { IfErr result.ended (λ why. (left : Held S) × HasStopped W.contents
+        (meaning_over S.Store) (R.remaining input.old.inner) (R.remaining input.new.inner)
+        output.old output.new result.witness why office left) }
+{
+    answer_lines(&mut office, alloc, input, output)
 }
 
 /// Answers the lines of a reader at the trial desk.
@@ -61,9 +100,8 @@ pub fn serve_trial<R: Read, W: Write>(
     ensures { IsTrial W.contents (R.remaining input.old.inner) (R.remaining input.new.inner)
         output.old output.new result.witness result.ended }
 {
-    let mut office = match trial_office(alloc) {
-        Ok(office) => office,
-        Err(fault) => return DeskEnded::unbegun(fault),
-    };
-    answer_lines(&mut office, alloc, input, output)
+    match trial_office(alloc) {
+        Ok(office) => answer_over(office, alloc, input, output),
+        Err(fault) => DeskEnded::unbegun(fault),
+    }
 }

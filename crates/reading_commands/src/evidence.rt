@@ -1,6 +1,10 @@
 //! `evidence`: on what a revision was issued, or how its sheet stood before an event.
 
 ghost use Rattle.std.specs.Prelude.{◌≡◌, IfErr, IfOk};
+ghost use Rattle.sqlite.specs.Held.{Held, state};
+ghost use Rattle.office_store.specs.Shown.{IsIdle};
+ghost use Rattle.office_desk.specs.Meant.{meaning_over};
+ghost use Rattle.journal_reports.specs.Evidence.{IsEvidence, IsNoEvidence};
 ghost use Rattle.reading_commands.specs.Reports.{FailsToProve, HasProved, IsEvidenceAt};
 ghost use Rattle.reading_commands.specs.Reports.{IsNoEvidenceAt, IsNoProfile};
 ghost use Rattle.reading_commands.specs.Reports.{profile_of};
@@ -8,11 +12,13 @@ ghost use Rattle.reading_commands.specs.Reports.{profile_of};
 use crate::name::word_of;
 use command_host::{CommandFault, PassFiles, print, text_at, told_of_text};
 use command_line::EvidenceWords;
+use journal_office::NoEvidence;
 use journal_reports::evidence;
 use memory_database::open_in_memory;
 use review_policy::{ProfileName, Text};
+use sqlite::{Alter, Connection};
 use std::alloc::Global;
-use std::io::Write;
+use std::io::{BufRead, Write};
 use streams::Counted;
 
 // The profile that words name.
@@ -23,6 +29,26 @@ fn profile_of(alloc: Global, words: &EvidenceWords<'_>) -> Result<ProfileName, C
     let team = word_of(alloc, words.team)?;
     let profile = word_of(alloc, words.profile)?;
     Ok(ProfileName { team, profile })
+}
+
+// The evidence that a journal gives over a connection to an empty store, which is let go of.
+fn evidence_over<S: Alter + Drop, R: BufRead + Drop>(
+    alloc: Global,
+    conn: Connection<S>,
+    journal: R,
+    name: &ProfileName,
+    words: &EvidenceWords<'_>,
+) -> Result<Text, NoEvidence>
+    requires { IsIdle (state S.Store conn) }
+    ensures evidence { IfOk result (λ text. (left : Held S) × IsEvidence (R.remaining journal)
+        name.now words.now.revision words.now.line (meaning_over S.Store) left text) }
+    ensures none { IfErr result (λ why. (left : Held S) × IsNoEvidence (R.remaining journal)
+        name.now words.now.revision words.now.line S.Store conn left why) }
+{
+    match evidence(alloc, conn, journal, name, words.revision, words.line) {
+        Ok((text, _)) => Ok(text),
+        Err((why, _)) => Err(why),
+    }
 }
 
 /// The evidence of the revision and the event that words name, of the journal that they name.
@@ -45,9 +71,9 @@ pub(crate) fn evidence_at<F: PassFiles>(
         Ok(conn) => conn,
         Err(refused) => return Err(CommandFault::NoMemory(refused.into())),
     };
-    match evidence(alloc, conn, &mut text, &name, words.revision, words.line) {
-        Ok((text, _)) => Ok(text),
-        Err((why, _)) => Err(told_of_text(&text, CommandFault::NoEvidence(why))),
+    match evidence_over(alloc, conn, &mut text, &name, words) {
+        Ok(text) => Ok(text),
+        Err(why) => Err(told_of_text(&text, CommandFault::NoEvidence(why))),
     }
 }
 

@@ -1,17 +1,23 @@
 //! `history`: what a journal tells, a line an event.
 
 ghost use Rattle.std.specs.Prelude.{◌≡◌, IfErr, IfOk};
+ghost use Rattle.sqlite.specs.Held.{Held, state};
+ghost use Rattle.office_store.specs.Shown.{IsIdle};
+ghost use Rattle.office_desk.specs.Meant.{meaning_over};
+ghost use Rattle.journal_reports.specs.History.{IsUnwritten, IsWritten};
 ghost use Rattle.reading_commands.specs.Reports.{HasNames, IsUntoldAt, NamesNone, WasToldAt};
 ghost use Rattle.reading_commands.specs.Reports.{asked_of};
 
 use crate::name::name_of;
 use command_host::{CommandFault, PassFiles, text_at, told_of_text};
 use command_line::HistoryWords;
+use journal_office::Unwritten;
 use journal_reports::{Filter, write_history};
 use memory_database::open_in_memory;
 use review_policy::Word;
+use sqlite::{Alter, Connection};
 use std::alloc::Global;
-use std::io::Write;
+use std::io::{BufRead, Write};
 use streams::Counted;
 
 // The names that words give.
@@ -51,6 +57,27 @@ fn filter_of<'n>(names: &'n Names, words: &HistoryWords<'_>) -> Filter<'n>
     }
 }
 
+// Writes the history of a journal over a connection to an empty store, which is let go of.
+fn write_over<S: Alter + Drop, R: BufRead + Drop, W: Write>(
+    alloc: Global,
+    conn: Connection<S>,
+    journal: R,
+    filter: &Filter<'_>,
+    output: &mut Counted<W>,
+) -> Result<(), Unwritten>
+    requires { IsIdle (state S.Store conn) }
+    ensures written { IfOk result (λ _. (left : Held S) × IsWritten (R.remaining journal) filter.now
+        (W.contents output.old.inner) (W.contents output.new.inner) (meaning_over S.Store) left) }
+    ensures unwritten { IfErr result (λ why. (left : Held S) × IsUnwritten (R.remaining journal)
+        filter.now (W.contents output.old.inner) (W.contents output.new.inner)
+        S.Store conn left why) }
+{
+    match write_history(alloc, conn, journal, filter, output) {
+        Ok(_) => Ok(()),
+        Err((why, _)) => Err(why),
+    }
+}
+
 /// `history`: prints a line for each event of a journal that the words ask for, and gives the status.
 ///
 /// # Errors
@@ -75,8 +102,8 @@ pub fn run_history<F: PassFiles, O: Write>(
         Err(refused) => return Err(CommandFault::NoMemory(refused.into())),
     };
     let filter = filter_of(&names, words);
-    match write_history(alloc, conn, &mut text, &filter, output) {
-        Ok(_) => Ok(0),
-        Err((why, _)) => Err(told_of_text(&text, CommandFault::Unwritten(why))),
+    match write_over(alloc, conn, &mut text, &filter, output) {
+        Ok(()) => Ok(0),
+        Err(why) => Err(told_of_text(&text, CommandFault::Unwritten(why))),
     }
 }

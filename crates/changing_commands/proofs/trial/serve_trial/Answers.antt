@@ -5,7 +5,7 @@ use Rattle.changing_commands.proofs.trial.serve_trial.Goals as goal
 pub returns-in-Err : goal.returns-in-Err
 returns-in-Err g c = rw c.unbegun.ensures (inl c.in-Err.ensures.fault)
 
-pub returns : goal.returns
-returns g c =
-    tried _ _ c.in-Ok.office c.answer_lines.new.office c.in-Ok.ensures.founded
-    c.answer_lines.result.ended c.answer_lines.ensures.answered c.answer_lines.ensures.stopped
+pub returns-in-Ok : goal.returns-in-Ok
+returns-in-Ok g c =
+    tried _ _ c.in-Ok.office c.in-Ok.ensures.founded
+    c.answer_over.result.ended c.answer_over.ensures.answered c.answer_over.ensures.stopped
