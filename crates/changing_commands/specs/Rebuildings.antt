@@ -6,9 +6,9 @@ use Rattle.sqlite.specs.Store.{Ghosts}
 use Rattle.sqlite.specs.State.{HasCleanDisk}
 use Rattle.desk_http.specs.Lines.{IsCut, IsWhole}
 use Rattle.journal_office.specs.Rebuilding.{IsBuilt, IsUnbuilt}
-use Rattle.journal_office.specs.declared.refused.Refused.{Refused}
-use Rattle.journal_office.specs.declared.refused.Why.{Why}
-use Rattle.journal_office.specs.declared.refused.Why.TheVariants as halt
+use Rattle.journal_faults.specs.declared.refused.Refused.{Refused}
+use Rattle.journal_faults.specs.declared.refused.Why.{Why}
+use Rattle.journal_faults.specs.declared.refused.Why.TheVariants as halt
 use Rattle.office_desk.specs.Meant.{meaning_over}
 use Rattle.office_store.specs.Schema.{no_schema}
 use Rattle.review_policy.specs.declared.fault.Fault.{Fault}

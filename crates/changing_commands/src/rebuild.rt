@@ -9,7 +9,8 @@ use crate::kept::mark_of_lines;
 use command_host::{
     CommandFault, Databases, PassFiles, close, open, print_bytes, seal_line, text_at, told_of_text,
 };
-use journal_office::{Rebuilt, Refused, Why, rebuild_as_read};
+use journal_faults::{Refused, Why};
+use journal_office::{Rebuilt, rebuild_as_read};
 use sealed_log::Seal;
 use sqlite::{Alter, Connection};
 use std::alloc::Global;

@@ -1,10 +1,10 @@
 -- The words of why a command is refused or failed.
 use Rattle.std.specs.Prelude.{ℕ, List, ◌++◌, codes}
 use Rattle.desk.specs.Faults.{desk_fault_word}
-use Rattle.journal_office.specs.DifferenceTexts.{difference_text}
-use Rattle.journal_office.specs.FaultTexts.{no_evidence_text, not_reopened_text, refused_text, unwritten_text}
-use Rattle.journal_office.specs.declared.unverified.Unverified.{Unverified}
-use Rattle.journal_office.specs.declared.unverified.Unverified.TheVariants as unverified
+use Rattle.journal_faults.specs.DifferenceTexts.{difference_text}
+use Rattle.journal_faults.specs.FaultTexts.{no_evidence_text, not_reopened_text, refused_text, unwritten_text}
+use Rattle.journal_faults.specs.declared.unverified.Unverified.{Unverified}
+use Rattle.journal_faults.specs.declared.unverified.Unverified.TheVariants as unverified
 use Rattle.office_founding.specs.Faults.{founding_fault_word, migration_fault_word}
 use Rattle.office_founding.specs.Faults.{opening_fault_word}
 use Rattle.review_policy.specs.WordTables.{fault_word}

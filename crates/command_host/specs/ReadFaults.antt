@@ -2,12 +2,12 @@
 use Rattle.std.specs.Prelude.{◌≡◌, ◌⊎◌, ℕ, List, Bool, true, false, Result}
 use Rattle.std.specs.declared.io.Error.{Error}
 use Rattle.sealed_log.specs.declared.unreadable.Unreadable.TheVariants as unreadable
-use Rattle.journal_office.specs.declared.refused.Refused.{Refused}
-use Rattle.journal_office.specs.declared.refused.Why.{Why}
-use Rattle.journal_office.specs.declared.refused.Why.TheVariants as halt
-use Rattle.journal_office.specs.declared.no_evidence.NoEvidence.TheVariants as evidence
-use Rattle.journal_office.specs.declared.unwritten.Unwritten.TheVariants as unwritten
-use Rattle.journal_office.specs.declared.unverified.Unverified.TheVariants as unverified
+use Rattle.journal_faults.specs.declared.refused.Refused.{Refused}
+use Rattle.journal_faults.specs.declared.refused.Why.{Why}
+use Rattle.journal_faults.specs.declared.refused.Why.TheVariants as halt
+use Rattle.journal_faults.specs.declared.no_evidence.NoEvidence.TheVariants as evidence
+use Rattle.journal_faults.specs.declared.unwritten.Unwritten.TheVariants as unwritten
+use Rattle.journal_faults.specs.declared.unverified.Unverified.TheVariants as unverified
 use Rattle.command_host.specs.FailedCalls.{CallFailed}
 use Rattle.command_host.specs.declared.fault.CommandFault.{CommandFault}
 use Rattle.command_host.specs.declared.fault.CommandFault.TheVariants as fault

@@ -6,7 +6,7 @@ ghost use Rattle.command_host.specs.FaultTexts.{execution_fault_word};
 use crate::founding_fault::FoundingWordsFault;
 use crate::noted::NoneFailed;
 use desk::DeskFault;
-use journal_office::{NoEvidence, NotReopened, Refused, Unverified, Unwritten};
+use journal_faults::{NoEvidence, NotReopened, Refused, Unverified, Unwritten};
 use no_memory::NoMemory;
 use office_founding::{FoundingFault, MigrationFault, OpeningFault};
 use profile_commands::{ComparedFault, ExecutionFault, FileFault};

@@ -8,7 +8,7 @@ ghost use Rattle.command_host.specs.JournalTexts.{IsNoText, IsTextAt};
 use crate::fault::CommandFault;
 use crate::files::PassFiles;
 use crate::noted::Noted;
-use journal_office::{NoEvidence, Refused, Unverified, Unwritten, Why};
+use journal_faults::{NoEvidence, Refused, Unverified, Unwritten, Why};
 use no_memory::NoMemory;
 use sealed_log::Unreadable;
 use std::alloc::Global;

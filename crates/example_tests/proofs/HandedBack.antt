@@ -19,8 +19,8 @@ use Rattle.office_desk.specs.Meant.{meaning_over}
 use Rattle.journal.specs.Journal.{Says}
 use Rattle.journal.specs.Lines.{happened, text_of}
 use Rattle.journal.proofs.JournalFacts.{says_one}
-use Rattle.journal_office.specs.declared.not_reopened.NotReopened.{NotReopened}
-use Rattle.journal_office.specs.declared.not_reopened.NotReopened.TheVariants.{Changed, Log, NoMemory, NotALine, Office, OtherJournal, Unsealed}
+use Rattle.journal_faults.specs.declared.not_reopened.NotReopened.{NotReopened}
+use Rattle.journal_faults.specs.declared.not_reopened.NotReopened.TheVariants.{Changed, Log, NoMemory, NotALine, Office, OtherJournal, Unsealed}
 use Rattle.journal_office.specs.Mending.{SaysOther, TellsOf}
 use Rattle.journal_office.specs.Opening.{IsHandedBack}
 use Rattle.journal_office.proofs.MendFacts.{left_ours}

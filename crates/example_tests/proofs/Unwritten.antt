@@ -8,8 +8,8 @@ use Rattle.office_policy.specs.History.{Event}
 use Rattle.office_desk.specs.Meant.{meaning_over}
 use Rattle.journal.specs.Journal.{IsEntry}
 use Rattle.journal.specs.Told.{GoesOn, Place, Tells, start}
-use Rattle.journal_office.specs.declared.refused.Why.TheVariants.{NotFounded}
-use Rattle.journal_office.specs.declared.unwritten.Unwritten.TheVariants.{NoMemory, Refused, Write}
+use Rattle.journal_faults.specs.declared.refused.Why.TheVariants.{NotFounded}
+use Rattle.journal_faults.specs.declared.unwritten.Unwritten.TheVariants.{NoMemory, Refused, Write}
 use Rattle.journal_reports.specs.History.{IsUnwritten}
 use Rattle.example_tests.specs.JournalExamples.{all_asked, one, refused_at, two}
 

@@ -18,8 +18,8 @@ use Rattle.journal.specs.Lines.{happened, strike, done, text_of}
 use Rattle.journal.specs.Told.{Place}
 use Rattle.journal.specs.Writing.{Writing}
 use Rattle.journal.specs.declared.journaled.Journaled.{Journaled}
-use Rattle.journal_office.specs.declared.refused.Refused.{Refused}
-use Rattle.journal_office.specs.declared.refused.Why.{Why}
+use Rattle.journal_faults.specs.declared.refused.Refused.{Refused}
+use Rattle.journal_faults.specs.declared.refused.Why.{Why}
 use Rattle.journal_reports.specs.Passing.{Asked}
 use Rattle.journal_verification.specs.declared.verification.KeptSeal.{KeptSeal}
 use Rattle.journal_verification.specs.declared.verification.Verified.{Verified}

@@ -20,8 +20,8 @@ use Rattle.journal.proofs.WriterFacts.{put_shown, writer_shown}
 use Rattle.journal.specs.Writers.{ShowsIf, ShowsOne, ShowsWriters, Writers, boxed_meant, writers_meant}
 use Rattle.journal_office.specs.declared.mending.Last.{Last}
 use Rattle.journal_office.specs.declared.mending.Last.TheVariants as last
-use Rattle.journal_office.specs.declared.not_reopened.NotReopened.{NotReopened}
-use Rattle.journal_office.specs.declared.not_reopened.NotReopened.TheVariants.{Unsealed, NotALine, Changed, OtherJournal, Office, Log, NoMemory}
+use Rattle.journal_faults.specs.declared.not_reopened.NotReopened.{NotReopened}
+use Rattle.journal_faults.specs.declared.not_reopened.NotReopened.TheVariants.{Unsealed, NotALine, Changed, OtherJournal, Office, Log, NoMemory}
 use Rattle.journal_office.specs.Mending.{Asks, Holds, IsLastOf, IsMet, LooksAt, LooksFor, Stays}
 
 -- ---- one question after another

@@ -7,9 +7,9 @@ use Rattle.office_policy.specs.Meaning.{Meaning}
 use Rattle.office_desk.specs.Replayed.{HasHappened}
 use Rattle.sealed_log.specs.declared.unreadable.Unreadable.{Unreadable}
 use Rattle.journal.specs.Told.{GoesOn, Place, held_at, history_told, standing, start}
-use Rattle.journal_office.specs.declared.refused.Refused.{Refused}
-use Rattle.journal_office.specs.declared.refused.Why.{Why}
-use Rattle.journal_office.specs.declared.refused.Why.TheVariants as halt
+use Rattle.journal_faults.specs.declared.refused.Refused.{Refused}
+use Rattle.journal_faults.specs.declared.refused.Why.{Why}
+use Rattle.journal_faults.specs.declared.refused.Why.TheVariants as halt
 use Rattle.journal_office.specs.Rebuilt.{HasReplayed, line_behind}
 use Rattle.journal_office.specs.Steps.{IsKeptOut as IsOut, IsLeft, IsLeftHeld, LeavesAt, Stops, StopsBehind}
 use Rattle.journal_office.proofs.Comes.{held_stands, none_stands}

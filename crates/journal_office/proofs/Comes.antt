@@ -3,9 +3,9 @@ use Rattle.std.proofs.Common.{◌≡◌, ◌∙◌, inl, inr, ℕ, [], ◌∷◌
 use Rattle.std.specs.Prelude.{option_map}
 use Rattle.office_policy.specs.History.{Event}
 use Rattle.journal.specs.Told.{Place, held_at, standing}
-use Rattle.journal_office.specs.declared.refused.Refused.{Refused}
-use Rattle.journal_office.specs.declared.refused.Why.{Why}
-use Rattle.journal_office.specs.declared.refused.Why.TheVariants as why
+use Rattle.journal_faults.specs.declared.refused.Refused.{Refused}
+use Rattle.journal_faults.specs.declared.refused.Why.{Why}
+use Rattle.journal_faults.specs.declared.refused.Why.TheVariants as why
 use Rattle.journal_office.specs.Steps.{ComesNext, IsFirstRead, IsLeft, IsLeftHeld}
 use Rattle.journal_office.proofs.Refusals.{held_there}
 

@@ -39,9 +39,10 @@ use Rattle.journal.proofs.Texts.{one_more, one_struck}
 use Rattle.journal.proofs.WriterFacts.{writers_shown}
 use Rattle.journal_office.specs.declared.mending.Last.{Last}
 use Rattle.journal_office.specs.declared.mending.Last.TheVariants as last
-use Rattle.journal_office.specs.declared.not_reopened.NotReopened.{NotReopened}
-use Rattle.journal_office.specs.declared.not_reopened.NotReopened.TheVariants.{Unsealed, NotALine, Changed, OtherJournal, Office, Log, NoMemory}
-use Rattle.journal_office.specs.Faults.{HasFileCause, IsOutside, IsRefusal, line_fault, log_fault}
+use Rattle.journal_faults.specs.declared.not_reopened.NotReopened.{NotReopened}
+use Rattle.journal_faults.specs.declared.not_reopened.NotReopened.TheVariants.{Unsealed, NotALine, Changed, OtherJournal, Office, Log, NoMemory}
+use Rattle.journal_faults.specs.Faults.{line_fault, log_fault}
+use Rattle.journal_office.specs.Faults.{HasFileCause, IsOutside, IsRefusal}
 use Rattle.journal_office.specs.Mending.{Asks, HasOfficeCause, HasTablesOf, IsAnswer, IsLastOf, IsMended, IsOneMore, IsStruckOut, Mends, SaysNow, SaysOther, TellsOf}
 use Rattle.no_memory.specs.Witness.{witness}
 

@@ -18,7 +18,7 @@ use Rattle.sealed_log.specs.declared.log.SealedLog.{SealedLog}
 use Rattle.journal.specs.Journal.{EndsWithEvent}
 use Rattle.journal.specs.Journals.{IsOf, goes_on}
 use Rattle.journal.proofs.Offices.{stands_with}
-use Rattle.journal_office.specs.declared.not_reopened.NotReopened.{NotReopened}
+use Rattle.journal_faults.specs.declared.not_reopened.NotReopened.{NotReopened}
 use Rattle.journal_office.specs.Mending.{HasTablesOf, Mends, SaysNow}
 use Rattle.journal_office.specs.Opening.{IsHandedBack, IsOfNow, IsReopened}
 use Rattle.journal_office.proofs.MendFacts.{lawful_more, left_ours}

@@ -8,9 +8,9 @@ use Rattle.office_policy.specs.Meaning.{Meaning}
 use Rattle.office_desk.specs.Meant.{meaning_over}
 use Rattle.sealed_log.specs.declared.unreadable.Unreadable.{Unreadable}
 use Rattle.journal.specs.Told.{GoesOn, Leaves, Place, held_at, start}
-use Rattle.journal_office.specs.declared.refused.Refused.{Refused}
-use Rattle.journal_office.specs.declared.refused.Why.{Why}
-use Rattle.journal_office.specs.declared.refused.Why.TheVariants as why
+use Rattle.journal_faults.specs.declared.refused.Refused.{Refused}
+use Rattle.journal_faults.specs.declared.refused.Why.{Why}
+use Rattle.journal_faults.specs.declared.refused.Why.TheVariants as why
 use Rattle.journal_office.specs.Rebuilt.{HasReplayed, IsRefused, line_behind}
 use Rattle.journal_office.specs.Steps.{HasBegun, IsFirstRead, IsKeptOut, IsLeft, IsLeftBehind, IsLeftHeld, IsNoFounding, IsNoneRead, IsUnbegun, LeavesAt, LeavesHeld, Stops, StopsBehind}
 use Rattle.journal_office.proofs.Replays.{goes_then}

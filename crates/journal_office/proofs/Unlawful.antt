@@ -18,8 +18,8 @@ use Rattle.journal.proofs.FaultFacts.{no_fault}
 use Rattle.journal.proofs.HistoryFacts.{journal_tells, journal_told}
 use Rattle.journal.proofs.JournalFacts.{one_history}
 use Rattle.journal.proofs.ToldFacts.{leaves_stops, stays}
-use Rattle.journal_office.specs.declared.refused.Why.{Why}
-use Rattle.journal_office.specs.declared.refused.Why.TheVariants as why
+use Rattle.journal_faults.specs.declared.refused.Why.{Why}
+use Rattle.journal_faults.specs.declared.refused.Why.TheVariants as why
 use Rattle.journal_office.specs.Rebuilt.{HasReplayed, IsNotFounded, IsRefused, IsUnlawful, IsUnread, Refutes}
 use Rattle.journal_office.proofs.Replays.{goes_then, told_more, told_on}
 

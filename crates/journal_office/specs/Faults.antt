@@ -3,28 +3,11 @@ use Rattle.std.specs.Prelude.{◌≡◌, ◌⊎◌, false}
 use Rattle.sqlite_disk.specs.declared.Disk.{Ghosts}
 use Rattle.sealed_log.specs.Faults.{IsOfCall}
 use Rattle.sealed_log.specs.declared.fault.LogFault.{LogFault}
-use Rattle.sealed_log.specs.declared.fault.LogFault.TheVariants as logs
-use Rattle.sealed_log.specs.declared.unreadable.Unreadable.{Unreadable}
-use Rattle.sealed_log.specs.declared.unreadable.Unreadable.TheVariants as unreadable
-use Rattle.journal_office.specs.declared.not_reopened.NotReopened.{NotReopened}
-use Rattle.journal_office.specs.declared.not_reopened.NotReopened.TheVariants.{Unsealed, NotALine}
-use Rattle.journal_office.specs.declared.not_reopened.NotReopened.TheVariants.{Changed, OtherJournal}
-use Rattle.journal_office.specs.declared.not_reopened.NotReopened.TheVariants.{Office, Log, NoMemory}
-
--- why a line can't stand where it does, or can't be read
-abbrev pub line_fault : Unreadable → NotReopened
-line_fault unreadable.NotALine = NotALine
-line_fault unreadable.NoEventBefore = NotALine
-line_fault unreadable.Unsealed = NotALine
-line_fault unreadable.TornLine = NotALine
-line_fault unreadable.Read = Log
-line_fault (unreadable.NoMemory refused) = NoMemory refused
-
--- why the file of a journal can't be used
-abbrev pub log_fault : LogFault → NotReopened
-log_fault (logs.NoMemory refused) = NoMemory refused
-log_fault logs.Disk = Log
-log_fault logs.Full = Log
+use Rattle.journal_faults.specs.Faults.{log_fault}
+use Rattle.journal_faults.specs.declared.not_reopened.NotReopened.{NotReopened}
+use Rattle.journal_faults.specs.declared.not_reopened.NotReopened.TheVariants.{Unsealed, NotALine}
+use Rattle.journal_faults.specs.declared.not_reopened.NotReopened.TheVariants.{Changed, OtherJournal}
+use Rattle.journal_faults.specs.declared.not_reopened.NotReopened.TheVariants.{Office, Log, NoMemory}
 
 -- the file or memory failed, and neither the journal nor the office
 abbrev pub IsOutside : NotReopened → Type 0

@@ -25,10 +25,10 @@ use Rattle.journal.specs.Kept.{SaysNone, Settled, with_stood}
 use Rattle.journal.specs.Writers.{ShowsWriters, Writers, with_writer, writers_of}
 use Rattle.journal_office.specs.declared.mending.Last.{Last}
 use Rattle.journal_office.specs.declared.mending.Last.TheVariants as last
-use Rattle.journal_office.specs.declared.not_reopened.NotReopened.{NotReopened}
-use Rattle.journal_office.specs.declared.not_reopened.NotReopened.TheVariants.{Unsealed, NotALine}
-use Rattle.journal_office.specs.declared.not_reopened.NotReopened.TheVariants.{Changed, OtherJournal}
-use Rattle.journal_office.specs.declared.not_reopened.NotReopened.TheVariants.{Office, Log, NoMemory}
+use Rattle.journal_faults.specs.declared.not_reopened.NotReopened.{NotReopened}
+use Rattle.journal_faults.specs.declared.not_reopened.NotReopened.TheVariants.{Unsealed, NotALine}
+use Rattle.journal_faults.specs.declared.not_reopened.NotReopened.TheVariants.{Changed, OtherJournal}
+use Rattle.journal_faults.specs.declared.not_reopened.NotReopened.TheVariants.{Office, Log, NoMemory}
 use Rattle.journal_office.specs.Faults.{HasFileCause, IsOutside, IsRefusal}
 
 -- the history, or it with an event that the policy allows then; its tables are the same

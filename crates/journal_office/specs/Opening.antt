@@ -17,9 +17,9 @@ use Rattle.journal.specs.declared.journaled.Journaled.{Journaled}
 use Rattle.journal.specs.Journals.{IsOf, goes_on, journaled}
 use Rattle.journal.specs.Kept.{SaysNone}
 use Rattle.journal.specs.Logs.{in_log}
-use Rattle.journal_office.specs.declared.not_reopened.NotReopened.{NotReopened}
-use Rattle.journal_office.specs.declared.not_reopened.NotReopened.TheVariants.{Unsealed, NotALine}
-use Rattle.journal_office.specs.declared.not_reopened.NotReopened.TheVariants.{Changed, OtherJournal}
+use Rattle.journal_faults.specs.declared.not_reopened.NotReopened.{NotReopened}
+use Rattle.journal_faults.specs.declared.not_reopened.NotReopened.TheVariants.{Unsealed, NotALine}
+use Rattle.journal_faults.specs.declared.not_reopened.NotReopened.TheVariants.{Changed, OtherJournal}
 use Rattle.journal_office.specs.Faults.{HasFileCause, IsRefusal}
 use Rattle.journal_office.specs.Mending.{HasOfficeCause, HasTablesOf, IsMended}
 use Rattle.journal_office.specs.Mending.{SaysOther, TellsOf}

@@ -16,9 +16,9 @@ use Rattle.sealed_log.specs.declared.unreadable.Unreadable.{Unreadable}
 use Rattle.sealed_log.specs.declared.unreadable.Unreadable.TheVariants as unreadable
 use Rattle.journal.specs.Told.{CannotGoOn, GoesOn, Place, history_told}
 use Rattle.journal.specs.Told.{standing, start}
-use Rattle.journal_office.specs.declared.refused.Refused.{Refused}
-use Rattle.journal_office.specs.declared.refused.Why.{Why}
-use Rattle.journal_office.specs.declared.refused.Why.TheVariants as halt
+use Rattle.journal_faults.specs.declared.refused.Refused.{Refused}
+use Rattle.journal_faults.specs.declared.refused.Why.{Why}
+use Rattle.journal_faults.specs.declared.refused.Why.TheVariants as halt
 use Rattle.journal_office.specs.Rebuilt.{HasReplayed, IsRebuilt, line_behind}
 use Rattle.journal_office.specs.Steps.{IsLast, IsUnbegun}
 

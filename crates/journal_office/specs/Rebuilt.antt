@@ -21,9 +21,9 @@ use Rattle.office_desk.specs.Replayed.{IsReplayed}
 use Rattle.journal.specs.Journal.{IsJournalOf, IsSealedJournal}
 use Rattle.journal.specs.Told.{CannotGoOn, GoesOn, Place, Tells, history_told, start}
 use Rattle.journal_office.specs.declared.office.Rebuilt.{Rebuilt}
-use Rattle.journal_office.specs.declared.refused.Refused.{Refused}
-use Rattle.journal_office.specs.declared.refused.Why.{Why}
-use Rattle.journal_office.specs.declared.refused.Why.TheVariants as why
+use Rattle.journal_faults.specs.declared.refused.Refused.{Refused}
+use Rattle.journal_faults.specs.declared.refused.Why.{Why}
+use Rattle.journal_faults.specs.declared.refused.Why.TheVariants as why
 
 -- the number of the line behind so many, up to the greatest u64
 abbrev pub line_behind : ℕ → ℕ

@@ -7,7 +7,7 @@ use Rattle.office_policy.specs.History.{Event}
 use Rattle.office_desk.specs.Meant.{meaning_over}
 use Rattle.journal.specs.SealsAt.{IsSeen}
 use Rattle.journal.specs.Told.{place}
-use Rattle.journal_office.specs.declared.refused.Refused.{Refused}
+use Rattle.journal_faults.specs.declared.refused.Refused.{Refused}
 use Rattle.journal_office.specs.declared.replay.Replay.{Replay}
 use Rattle.journal_office.specs.Rebuilt.{HasReplayed}
 use Rattle.journal_office.specs.Steps.{Continues, HasBegun}

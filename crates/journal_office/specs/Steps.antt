@@ -16,9 +16,9 @@ use Rattle.sealed_log.specs.declared.unreadable.Unreadable.{Unreadable}
 use Rattle.journal.specs.declared.events.Placed.{Placed}
 use Rattle.journal.specs.Told.{CannotGoOn, Gives, GoesOn, Leaves, Place, Tells, held_at}
 use Rattle.journal.specs.Told.{placed_meant, start}
-use Rattle.journal_office.specs.declared.refused.Refused.{Refused}
-use Rattle.journal_office.specs.declared.refused.Why.{Why}
-use Rattle.journal_office.specs.declared.refused.Why.TheVariants as why
+use Rattle.journal_faults.specs.declared.refused.Refused.{Refused}
+use Rattle.journal_faults.specs.declared.refused.Why.{Why}
+use Rattle.journal_faults.specs.declared.refused.Why.TheVariants as why
 use Rattle.journal_office.specs.Rebuilt.{HasReplayed, IsNotFounded, IsRebuilt, IsUnfounded, IsUnread}
 use Rattle.journal_office.specs.Rebuilt.{IsUnreplayed, line_behind}
 

@@ -3,7 +3,7 @@ use Rattle.std.specs.Prelude.{◌≡◌, ◌+◌, ◌-◌, ◌^◌, ◌<◌, [],
 use Rattle.office_policy.specs.History.{Event}
 use Rattle.journal.specs.SealsAt.{IsSeen}
 use Rattle.journal.specs.Told.{Ends, GoesOn, place}
-use Rattle.journal_office.specs.declared.refused.Refused.{Refused}
+use Rattle.journal_faults.specs.declared.refused.Refused.{Refused}
 use Rattle.journal_office.specs.declared.replay.Replay.{Replay}
 use Rattle.journal_office.specs.Steps.{IsLeft}
 

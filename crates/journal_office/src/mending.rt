@@ -11,8 +11,8 @@ ghost use Rattle.journal.specs.Kept.{IsKept, keeps};
 ghost use Rattle.journal.specs.Writers.{ShowsIf, ShowsWriters, boxed_meant, writers_meant};
 ghost use Rattle.journal_office.specs.Mending.{Asks, IsStruckOut, LooksAt, LooksFor, Mends};
 
-use crate::not_reopened::NotReopened;
 use journal::{Kept, Line, Writers, text};
+use journal_faults::NotReopened;
 use office_desk::Office;
 use office_policy::Event;
 use sealed_log::{SealedLog, Through};

@@ -15,10 +15,10 @@ ghost use Rattle.journal_office.specs.Rebuilt.{Rebuilds, Refutes};
 ghost use Rattle.journal_office.specs.Replaying.{HasGoneOn, IsReplaying};
 ghost use Rattle.journal_office.specs.Steps.{Continues, HasBegun};
 
-use crate::refused::Refused;
 use crate::replay::Replay;
 use crate::visitor::{Visitor, visit};
 use journal::Placed;
+use journal_faults::Refused;
 use office_desk::Office;
 use sealed_log::Seal;
 use sqlite::{Alter, Connection};

@@ -4,8 +4,8 @@ ghost use Rattle.std.specs.Prelude.{IfOk, IfErr};
 ghost use Rattle.journal_office.specs.Opening.{IsHandedBack, IsReopened};
 
 use crate::mending::mend;
-use crate::not_reopened::NotReopened;
 use journal::Journaled;
+use journal_faults::NotReopened;
 use office_desk::Office;
 use sealed_log::SealedLog;
 use sqlite::Alter;

@@ -13,8 +13,8 @@ ghost use Rattle.journal_office.specs.Rebuilding.{BuildsOn, IsBuilt, IsHalted, I
 ghost use Rattle.journal_office.specs.Rebuilding.{ends_there};
 
 use crate::office::{Rebuilt, replay_rest};
-use crate::refused::{Refused, Why};
 use crate::replay::Replay;
+use journal_faults::{Refused, Why};
 use sealed_log::Unreadable;
 use sqlite::{Alter, Connection};
 use std::alloc::Global;

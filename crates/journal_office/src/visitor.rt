@@ -5,9 +5,9 @@ ghost use Rattle.journal.specs.Told.{placed_meant};
 ghost use Rattle.journal_office.specs.declared.replay.Replay.{Replay};
 ghost use Rattle.journal_office.specs.Visits.{HasEnded, HasStopped, HasTaken};
 
-use crate::refused::Refused;
 use crate::replay::Replay;
 use journal::Placed;
+use journal_faults::Refused;
 use sqlite::Alter;
 use std::alloc::Global;
 use std::io::BufRead;

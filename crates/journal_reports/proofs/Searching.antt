@@ -17,13 +17,13 @@ use Rattle.office_desk.specs.Replayed.{HasHappened}
 use Rattle.journal.specs.Journal.{IsJournalOf}
 use Rattle.journal.specs.Told.{Ends, GoesOn, Place, Tells, history_told, start}
 use Rattle.journal.proofs.HistoryFacts.{journal_told}
-use Rattle.journal_office.specs.declared.refused.Refused.{Refused}
+use Rattle.journal_faults.specs.declared.refused.Refused.{Refused}
 use Rattle.journal_office.specs.Rebuilt.{HasReplayed}
 use Rattle.journal_office.specs.Steps.{IsKeptOut}
 use Rattle.journal_office.proofs.Refusals.{kept_out, none_behind}
 use Rattle.journal_office.proofs.Replays.{more}
-use Rattle.journal_office.specs.declared.no_evidence.NoEvidence.{NoEvidence}
-use Rattle.journal_office.specs.declared.no_evidence.NoEvidence.TheVariants as why
+use Rattle.journal_faults.specs.declared.no_evidence.NoEvidence.{NoEvidence}
+use Rattle.journal_faults.specs.declared.no_evidence.NoEvidence.TheVariants as why
 use Rattle.journal_reports.specs.Evidence.{IsNever, IsNoEvidence, ending_of, evidence_of, is_wanted, issue_text, none_of}
 use Rattle.journal_reports.specs.Lines.{line_of, text_of}
 use Rattle.journal_reports.specs.Steps.{HasSeen, IsInVain, Looks, LooksInVain, NoneWanted, Searches}

@@ -18,15 +18,15 @@ use Rattle.office_desk.specs.Replayed.{HasHappened}
 use Rattle.sealed_log.specs.declared.unreadable.Unreadable.{Unreadable}
 use Rattle.journal.specs.Told.{Begins, Ends, GoesOn, Place, Tells, held_at, history_told, standing, start}
 use Rattle.journal.proofs.ToldFacts.{begins_first, stays, still_known}
-use Rattle.journal_office.specs.declared.refused.Refused.{Refused}
-use Rattle.journal_office.specs.declared.refused.Why.{Why}
-use Rattle.journal_office.specs.declared.refused.Why.TheVariants as halt
+use Rattle.journal_faults.specs.declared.refused.Refused.{Refused}
+use Rattle.journal_faults.specs.declared.refused.Why.{Why}
+use Rattle.journal_faults.specs.declared.refused.Why.TheVariants as halt
 use Rattle.journal_office.specs.Rebuilt.{HasReplayed, line_behind}
 use Rattle.journal_office.specs.Steps.{ComesNext, IsKeptOut as IsOut, IsLeft, IsLeftHeld, LeavesAt}
 use Rattle.journal_office.proofs.Comes.{held_number, held_stands, none_stands}
 use Rattle.journal_office.proofs.Replays.{goes_then, more_lawful, more_stands, told_on}
-use Rattle.journal_office.specs.declared.unwritten.Unwritten.{Unwritten}
-use Rattle.journal_office.specs.declared.unwritten.Unwritten.TheVariants as why
+use Rattle.journal_faults.specs.declared.unwritten.Unwritten.{Unwritten}
+use Rattle.journal_faults.specs.declared.unwritten.Unwritten.TheVariants as why
 use Rattle.journal_reports.specs.History.{HasWritten, IsCutOff, IsHalted, IsUnwritten, NoneTo, last_behind, last_line, lines_after, lines_to, lines_told, shown_behind, shown_of}
 use Rattle.journal_reports.specs.Lines.{line_of, looked_up, text_in}
 use Rattle.journal_reports.specs.Passing.{Asked, passes}

@@ -16,8 +16,8 @@ use Rattle.office_desk.specs.Meant.{meaning_over}
 use Rattle.journal.specs.Journal.{IsJournalOf}
 use Rattle.journal.specs.Told.{GoesOn, Place, Tells, history_told, start}
 use Rattle.journal_office.specs.Rebuilt.{HasReplayed, IsRefused}
-use Rattle.journal_office.specs.declared.no_evidence.NoEvidence.{NoEvidence}
-use Rattle.journal_office.specs.declared.no_evidence.NoEvidence.TheVariants as why
+use Rattle.journal_faults.specs.declared.no_evidence.NoEvidence.{NoEvidence}
+use Rattle.journal_faults.specs.declared.no_evidence.NoEvidence.TheVariants as why
 use Rattle.journal_reports.specs.Lines.{line_of}
 use Rattle.office_policy.specs.Callers.{caller_of}
 

@@ -16,12 +16,12 @@ use Rattle.office_desk.specs.Replayed.{IsReplayed}
 use Rattle.sealed_log.specs.declared.unreadable.Unreadable.{Unreadable}
 use Rattle.journal.specs.Told.{Begins, CannotGoOn, GoesOn, Place, Tells, history_told}
 use Rattle.journal.specs.Told.{standing, start}
-use Rattle.journal_office.specs.declared.refused.Why.{Why}
-use Rattle.journal_office.specs.declared.refused.Why.TheVariants as halt
+use Rattle.journal_faults.specs.declared.refused.Why.{Why}
+use Rattle.journal_faults.specs.declared.refused.Why.TheVariants as halt
 use Rattle.journal_office.specs.Rebuilt.{HasReplayed, line_behind}
 use Rattle.journal_office.specs.Steps.{ComesNext, IsUnbegun}
-use Rattle.journal_office.specs.declared.unwritten.Unwritten.{Unwritten}
-use Rattle.journal_office.specs.declared.unwritten.Unwritten.TheVariants as why
+use Rattle.journal_faults.specs.declared.unwritten.Unwritten.{Unwritten}
+use Rattle.journal_faults.specs.declared.unwritten.Unwritten.TheVariants as why
 use Rattle.journal_reports.specs.Lines.{line_of}
 use Rattle.journal_reports.specs.Passing.{Asked, passes}
 use Rattle.journal_reports.specs.Struck.{struck_lines}

@@ -9,8 +9,8 @@ use Rattle.office_desk.specs.Looking.{IsMetBetween}
 use Rattle.journal.specs.Told.{Place, history_told}
 use Rattle.journal_office.specs.Rebuilt.{HasReplayed}
 use Rattle.journal_office.specs.Steps.{IsLeftBehind}
-use Rattle.journal_office.specs.declared.no_evidence.NoEvidence.{NoEvidence}
-use Rattle.journal_office.specs.declared.no_evidence.NoEvidence.TheVariants as why
+use Rattle.journal_faults.specs.declared.no_evidence.NoEvidence.{NoEvidence}
+use Rattle.journal_faults.specs.declared.no_evidence.NoEvidence.TheVariants as why
 use Rattle.journal_reports.specs.Evidence.{IsEvidence, IsNever, IsUnseen, IsWithoutRevision}
 use Rattle.journal_reports.specs.Evidence.{is_wanted}
 

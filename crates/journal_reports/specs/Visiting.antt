@@ -6,8 +6,8 @@ use Rattle.office_desk.specs.Meant.{meaning_over}
 use Rattle.journal.specs.Told.{place}
 use Rattle.journal_office.specs.declared.replay.Replay.{Replay}
 use Rattle.journal_office.specs.Rebuilt.{HasReplayed}
-use Rattle.journal_office.specs.declared.no_evidence.NoEvidence.{NoEvidence}
-use Rattle.journal_office.specs.declared.unwritten.Unwritten.{Unwritten}
+use Rattle.journal_faults.specs.declared.no_evidence.NoEvidence.{NoEvidence}
+use Rattle.journal_faults.specs.declared.unwritten.Unwritten.{Unwritten}
 use Rattle.journal_reports.specs.declared.history.Writer.{Writer}
 use Rattle.journal_reports.specs.declared.sheet_before.Seeker.{Seeker}
 use Rattle.journal_reports.specs.History.{HasWritten, last_line}

@@ -13,8 +13,8 @@ use Rattle.office_policy.specs.Meaning.{Meaning}
 use Rattle.office_desk.specs.Looking.{IsMetBetween}
 use Rattle.journal.specs.Told.{Place, history_told}
 use Rattle.journal_office.specs.Rebuilt.{HasReplayed}
-use Rattle.journal_office.specs.declared.unwritten.Unwritten.{Unwritten}
-use Rattle.journal_office.specs.declared.unwritten.Unwritten.TheVariants as why
+use Rattle.journal_faults.specs.declared.unwritten.Unwritten.{Unwritten}
+use Rattle.journal_faults.specs.declared.unwritten.Unwritten.TheVariants as why
 use Rattle.journal_reports.specs.History.{IsBlind, IsCutBehind, IsCutIn, IsGivenUp, IsHalted}
 use Rattle.journal_reports.specs.History.{IsWritten, last_line, lines_to, shown_of}
 use Rattle.journal_reports.specs.Lines.{looked_up}

@@ -4,11 +4,11 @@ ghost use Rattle.std.specs.Prelude.{◌≡◌, ◌++◌, ◌+◌, ◌-◌, ◌%�
 ghost use Rattle.review_sheet.specs.Layout.{Adds};
 ghost use Rattle.journal_reports.specs.Struck.{pair_lines, strike_of, strike_text, struck_lines};
 ghost use Rattle.journal_reports.specs.Struck.{struck_of, struck_text};
-ghost use Rattle.journal_office.specs.declared.unwritten.Unwritten.TheVariants.{NoMemory};
+ghost use Rattle.journal_faults.specs.declared.unwritten.Unwritten.TheVariants.{NoMemory};
 ghost use Rattle.no_memory.specs.Witness.{witness};
 
 use crate::filter::Filter;
-use journal_office::Unwritten;
+use journal_faults::Unwritten;
 use std::alloc::{AllocError, Global};
 
 // Adds that the event of a line didn't happen.

@@ -9,7 +9,7 @@ use Rattle.office_tables.specs.Tables.{Tables}
 use Rattle.review_policy.specs.declared.fault.Fault.{Fault}
 use Rattle.office_store.specs.Schema.{office_schema}
 use Rattle.office_store.specs.Shown.{IsOffice, Shows}
-use Rattle.journal_office.specs.declared.difference.Difference.{Difference}
+use Rattle.journal_faults.specs.declared.difference.Difference.{Difference}
 use Rattle.journal_verification.specs.Compared.{TellsOffice}
 use Rattle.journal_verification.specs.Same.{TellsTables}
 use Rattle.journal_verification.proofs.Offices.{office_again}

@@ -11,10 +11,10 @@ use Rattle.office_tables.specs.Tables.{Tables, is_profile}
 use Rattle.office_store.specs.Entries.{IsBaseline, IsProfileName, IsRevision, IsUser, IsVote, baseline_row, hold_row, revision_key, revision_row, same_revision, same_vote, user_row, vote_row}
 use Rattle.office_store.specs.Shown.{IsOffice, Shows}
 use Rattle.office_store.proofs.Profiles.{profiles_decide, revisions_decide, votes_decide}
-use Rattle.journal_office.specs.declared.difference.Difference.{Difference}
-use Rattle.journal_office.specs.declared.difference.Difference.TheVariants as difference
-use Rattle.journal_office.specs.declared.table.Table.{Table}
-use Rattle.journal_office.specs.declared.table.Table.TheVariants as table
+use Rattle.journal_faults.specs.declared.difference.Difference.{Difference}
+use Rattle.journal_faults.specs.declared.difference.Difference.TheVariants as difference
+use Rattle.journal_faults.specs.declared.table.Table.{Table}
+use Rattle.journal_faults.specs.declared.table.Table.TheVariants as table
 use Rattle.journal_verification.specs.Compared.{Differs}
 use Rattle.journal_verification.specs.Different.{DifferAt}
 use Rattle.journal_verification.specs.Differing.{StandsFirst}

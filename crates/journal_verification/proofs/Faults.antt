@@ -13,8 +13,8 @@ use Rattle.office_rows.proofs.Sure.{IsSure, rows_fault, shut_failed, sure_failed
 use Rattle.office_store.specs.Schema.{office_schema}
 use Rattle.office_store.specs.Shown.{IsIdle}
 use Rattle.office_store.proofs.Calls.{by_open}
-use Rattle.journal_office.specs.declared.table.Table.{Table}
-use Rattle.journal_office.specs.declared.table.Table.TheVariants as table
+use Rattle.journal_faults.specs.declared.table.Table.{Table}
+use Rattle.journal_faults.specs.declared.table.Table.TheVariants as table
 use Rattle.journal_verification.specs.Texts.{rowids_text, rows_text}
 use Rattle.journal_verification.proofs.Queries.{rows_are_asked, rowids_are_asked}
 

@@ -9,8 +9,8 @@ use Rattle.sqlite.specs.Held.{Held, state}
 use Rattle.sqlite.specs.Order.{Row}
 use Rattle.sqlite.specs.Store.{Ghosts}
 use Rattle.sqlite_value.proofs.OrderLemmas.{row_cmp_total}
-use Rattle.journal_office.specs.declared.difference.Difference.{Difference}
-use Rattle.journal_office.specs.declared.table.Table.{Table}
+use Rattle.journal_faults.specs.declared.difference.Difference.{Difference}
+use Rattle.journal_faults.specs.declared.table.Table.{Table}
 use Rattle.journal_verification.specs.Differing.{IsEarlier, IsFirstDiffering, IsNoneBefore, columns_cmp}
 use Rattle.journal_verification.specs.Named.{IsNamed}
 use Rattle.journal_verification.specs.Reading.{GivesBehind, GivesRest, HasBehind, HasNext, IsAt}

@@ -20,9 +20,9 @@ use Rattle.office_store.specs.Entries.{BaselineEntry, IsBaseline, IsProfileName,
 use Rattle.office_store.specs.Shown.{IsOffice}
 use Rattle.office_store.proofs.ListReads.{same_name}
 use Rattle.office_store.proofs.Profiles.{profiles_decide, revisions_decide, votes_decide}
-use Rattle.journal_office.specs.declared.difference.Difference.{Difference}
-use Rattle.journal_office.specs.declared.difference.Difference.TheVariants as difference
-use Rattle.journal_office.specs.declared.table.Table.TheVariants as table
+use Rattle.journal_faults.specs.declared.difference.Difference.{Difference}
+use Rattle.journal_faults.specs.declared.difference.Difference.TheVariants as difference
+use Rattle.journal_faults.specs.declared.table.Table.TheVariants as table
 use Rattle.journal_verification.specs.Different.{DifferAt}
 use Rattle.journal_verification.specs.Differing.{columns_cmp}
 use Rattle.journal_verification.specs.Named.{IsKeyOf}

@@ -16,9 +16,9 @@ use Rattle.office_rows.proofs.Queries.{rows_asked}
 use Rattle.office_store.specs.Shown.{IsIdle}
 use Rattle.office_store.proofs.Calls.{opened}
 use Rattle.office_store.proofs.Committed.{survives_same}
-use Rattle.journal_office.specs.declared.difference.Difference.{Difference}
-use Rattle.journal_office.specs.declared.table.Table.{Table}
-use Rattle.journal_office.specs.declared.table.Table.TheVariants as table
+use Rattle.journal_faults.specs.declared.difference.Difference.{Difference}
+use Rattle.journal_faults.specs.declared.table.Table.{Table}
+use Rattle.journal_faults.specs.declared.table.Table.TheVariants as table
 use Rattle.journal_verification.specs.declared.table.TheConstants.{FURTHER}
 use Rattle.journal_verification.specs.Looked.{HasLooked}
 use Rattle.journal_verification.specs.Same.{DiffersFirst, HaveSame, HaveSameTables, TellsTable}

@@ -30,8 +30,8 @@ use Rattle.office_rows.proofs.Rowids.{has_permuted}
 use Rattle.office_store.specs.Schema.{office_schema, office_table, users_table, revisions_table, votes_table, baselines_table, holds_table}
 use Rattle.office_store.specs.Entries.{Revision, VoteEntry, BaselineEntry, user_row, revision_row, vote_row, baseline_row, hold_row}
 use Rattle.office_store.specs.Shown.{IsOffice, office_row}
-use Rattle.journal_office.specs.declared.table.Table.{Table}
-use Rattle.journal_office.specs.declared.table.Table.TheVariants as table
+use Rattle.journal_faults.specs.declared.table.Table.{Table}
+use Rattle.journal_faults.specs.declared.table.Table.TheVariants as table
 use Rattle.journal_verification.specs.Same.{IsAnsweredBy, HaveSameTables}
 use Rattle.journal_verification.specs.Texts.{rows_text, rowids_text}
 use Rattle.journal_verification.proofs.Again.{shows_all, are_ints, are_apart, kept_again}

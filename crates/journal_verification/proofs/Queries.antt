@@ -14,8 +14,8 @@ use Rattle.office_rows.proofs.Queries.{is_query}
 use Rattle.office_rows.proofs.Plain.{Means}
 use Rattle.office_rows.proofs.InOrder.{ordered_query}
 use Rattle.office_store.specs.Schema.{office_schema}
-use Rattle.journal_office.specs.declared.table.Table.{Table}
-use Rattle.journal_office.specs.declared.table.Table.TheVariants as table
+use Rattle.journal_faults.specs.declared.table.Table.{Table}
+use Rattle.journal_faults.specs.declared.table.Table.TheVariants as table
 use Rattle.journal_verification.specs.Texts.{rows_text, rowids_text}
 
 -- the tree of a table

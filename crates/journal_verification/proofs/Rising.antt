@@ -12,7 +12,7 @@ use Rattle.sqlite_trees.specs.View.{is_int, IsShaped}
 use Rattle.sqlite_trees.specs.declared.store.Shape.TheVariants.{Table}
 use Rattle.sqlite_trees.proofs.ListLemmas.{all-append, ascending-append}
 use Rattle.journal_verification.specs.declared.rows.Rising.TheVariants as rising
-use Rattle.journal_office.specs.declared.table.Table.{Table as TableOf}
+use Rattle.journal_faults.specs.declared.table.Table.{Table as TableOf}
 use Rattle.journal_verification.specs.Rising.{EndsWith, IsTold}
 use Rattle.journal_verification.specs.Same.{IsAnsweredBy, TellsRowids}
 use Rattle.journal_verification.specs.Texts.{rowids_text}

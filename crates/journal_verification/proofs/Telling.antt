@@ -20,7 +20,7 @@ use Rattle.office_rows.proofs.Rowids.{has_permuted}
 use Rattle.office_rows.proofs.Stored.{find_own}
 use Rattle.office_store.proofs.Kept.{some_shown}
 use Rattle.office_store.specs.Schema.{office_schema}
-use Rattle.journal_office.specs.declared.table.Table.{Table}
+use Rattle.journal_faults.specs.declared.table.Table.{Table}
 use Rattle.journal_verification.specs.Differing.{StandsFirst, columns_cmp}
 use Rattle.journal_verification.specs.Same.{IsAnsweredBy}
 use Rattle.journal_verification.specs.Texts.{key_width, rows_text}

@@ -16,12 +16,12 @@ use Rattle.office_desk.specs.Replayed.{HasOtherText, IsDeniedBy, IsRefused as Is
 use Rattle.journal.specs.Journal.{IsJournalOf, IsSealedJournal}
 use Rattle.journal.specs.SealsAt.{IsSealAsked}
 use Rattle.journal.specs.Told.{history_told, start}
-use Rattle.journal_office.specs.declared.refused.Refused.{Refused}
-use Rattle.journal_office.specs.declared.refused.Why.{Why}
-use Rattle.journal_office.specs.declared.refused.Why.TheVariants as why
+use Rattle.journal_faults.specs.declared.refused.Refused.{Refused}
+use Rattle.journal_faults.specs.declared.refused.Why.{Why}
+use Rattle.journal_faults.specs.declared.refused.Why.TheVariants as why
 use Rattle.journal_office.specs.Rebuilt.{IsRebuilt, IsRefused, IsUnreplayed, Refutes}
 use Rattle.journal_office.proofs.Replays.{goes_then}
-use Rattle.journal_office.specs.declared.difference.Difference.{Difference}
+use Rattle.journal_faults.specs.declared.difference.Difference.{Difference}
 use Rattle.journal_verification.specs.Compared.{Differs}
 use Rattle.journal_verification.specs.Refused.{IsFirstUnlawful, IsNotRebuilt, IsWrongAt}
 use Rattle.journal_verification.specs.declared.verification.KeptSeal.{KeptSeal}

@@ -5,8 +5,8 @@ use Rattle.sqlite.specs.Store.{Ghosts}
 use Rattle.office_tables.specs.Tables.{Tables}
 use Rattle.office_store.specs.Schema.{office_schema}
 use Rattle.office_store.specs.Shown.{Shows}
-use Rattle.journal_office.specs.declared.difference.Difference.{Difference}
-use Rattle.journal_office.specs.declared.difference.Difference.TheVariants as difference
+use Rattle.journal_faults.specs.declared.difference.Difference.{Difference}
+use Rattle.journal_faults.specs.declared.difference.Difference.TheVariants as difference
 use Rattle.journal_verification.specs.Same.{TellsTables}
 
 module _ {S T : Type 0} (g : Ghosts S) (f : Ghosts T) where

@@ -1,8 +1,8 @@
 -- Where the tables of two offices differ.
 use Rattle.std.specs.Prelude.{◌≢◌}
 use Rattle.office_tables.specs.Tables.{Tables}
-use Rattle.journal_office.specs.declared.difference.Difference.{Difference}
-use Rattle.journal_office.specs.declared.difference.Difference.TheVariants as difference
+use Rattle.journal_faults.specs.declared.difference.Difference.{Difference}
+use Rattle.journal_faults.specs.declared.difference.Difference.TheVariants as difference
 
 -- at the key that the difference names; no two offices differ in their schema, nor in what isn't a
 -- table, and of a row that has no key nothing is said

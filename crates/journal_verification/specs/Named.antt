@@ -5,10 +5,10 @@ use Rattle.sqlite.specs.Order.{Row}
 use Rattle.sqlite_value.specs.Order.{column}
 use Rattle.review_policy.specs.declared.ask.ProfileName.{ProfileName}
 use Rattle.review_policy.specs.Words.{is_word}
-use Rattle.journal_office.specs.declared.difference.Difference.{Difference}
-use Rattle.journal_office.specs.declared.difference.Difference.TheVariants as difference
-use Rattle.journal_office.specs.declared.table.Table.{Table}
-use Rattle.journal_office.specs.declared.table.Table.TheVariants as table
+use Rattle.journal_faults.specs.declared.difference.Difference.{Difference}
+use Rattle.journal_faults.specs.declared.difference.Difference.TheVariants as difference
+use Rattle.journal_faults.specs.declared.table.Table.{Table}
+use Rattle.journal_faults.specs.declared.table.Table.TheVariants as table
 
 -- the first two columns are the team and the name of this profile
 abbrev pub IsProfileAt : Row → ProfileName → Type 0

@@ -7,8 +7,8 @@ use Rattle.sqlite.specs.Held.{Held, state}
 use Rattle.sqlite.specs.Order.{Row}
 use Rattle.sqlite.specs.State.{IsUnchanged}
 use Rattle.sqlite.specs.Store.{Ghosts}
-use Rattle.journal_office.specs.declared.difference.Difference.{Difference}
-use Rattle.journal_office.specs.declared.table.Table.{Table}
+use Rattle.journal_faults.specs.declared.difference.Difference.{Difference}
+use Rattle.journal_faults.specs.declared.table.Table.{Table}
 use Rattle.journal_verification.specs.Same.{HaveOther, IsAnsweredBy}
 use Rattle.journal_verification.specs.Texts.{rowids_text, rows_text}
 

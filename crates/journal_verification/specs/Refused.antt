@@ -10,9 +10,9 @@ use Rattle.office_policy.specs.Lawful.{IsAllowed, IsLawfulHistory}
 use Rattle.office_desk.specs.declared.replay.Unreplayed.TheVariants as causes
 use Rattle.office_desk.specs.Replayed.{HasOtherText, IsDeniedBy}
 use Rattle.journal.specs.Told.{GoesOn, Place, history_told, start}
-use Rattle.journal_office.specs.declared.refused.Refused.{Refused}
-use Rattle.journal_office.specs.declared.refused.Why.{Why}
-use Rattle.journal_office.specs.declared.refused.Why.TheVariants as why
+use Rattle.journal_faults.specs.declared.refused.Refused.{Refused}
+use Rattle.journal_faults.specs.declared.refused.Why.{Why}
+use Rattle.journal_faults.specs.declared.refused.Why.TheVariants as why
 use Rattle.journal_office.specs.Rebuilt.{IsNotFounded, IsRefused, IsUnread, Refutes}
 
 -- of a journal with these bytes, where they are known

@@ -8,9 +8,9 @@ use Rattle.sqlite.specs.State.{Shown}
 use Rattle.sqlite.specs.Store.{Ghosts}
 use Rattle.sqlite_trees.specs.View.{IsShaped}
 use Rattle.sqlite_trees.specs.declared.store.Shape.TheVariants.{Table as TableShape}
-use Rattle.journal_office.specs.declared.difference.Difference.{Difference}
-use Rattle.journal_office.specs.declared.difference.Difference.TheVariants as difference
-use Rattle.journal_office.specs.declared.table.Table.{Table}
+use Rattle.journal_faults.specs.declared.difference.Difference.{Difference}
+use Rattle.journal_faults.specs.declared.difference.Difference.TheVariants as difference
+use Rattle.journal_faults.specs.declared.table.Table.{Table}
 use Rattle.journal_verification.specs.Differing.{IsFirstDiffering}
 use Rattle.journal_verification.specs.Named.{IsNamed}
 use Rattle.journal_verification.specs.Texts.{key_width, rowids_text, rows_text, tables}

@@ -1,7 +1,7 @@
 -- The tables of an office, and the queries of them.
 use Rattle.std.specs.Prelude.{ℕ, List, [], ◌∷◌}
-use Rattle.journal_office.specs.declared.table.Table.{Table}
-use Rattle.journal_office.specs.declared.table.Table.TheVariants as table
+use Rattle.journal_faults.specs.declared.table.Table.{Table}
+use Rattle.journal_faults.specs.declared.table.Table.TheVariants as table
 use Rattle.journal_verification.specs.declared.table.TheConstants as query
 
 -- the tables, in the order in which those of two offices are compared

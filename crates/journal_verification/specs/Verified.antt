@@ -13,11 +13,11 @@ use Rattle.office_policy.specs.TablesOf.{tables_of}
 use Rattle.office_desk.specs.Meant.{meaning_over}
 use Rattle.journal.specs.Journal.{IsJournalOf, IsSealedJournal}
 use Rattle.sealed_log.specs.Told.{told}
-use Rattle.journal_office.specs.declared.difference.Difference.{Difference}
-use Rattle.journal_office.specs.declared.difference.Difference.TheVariants as difference
+use Rattle.journal_faults.specs.declared.difference.Difference.{Difference}
+use Rattle.journal_faults.specs.declared.difference.Difference.TheVariants as difference
 use Rattle.journal_verification.specs.declared.verification.KeptSeal.{KeptSeal}
-use Rattle.journal_office.specs.declared.unverified.Unverified.{Unverified}
-use Rattle.journal_office.specs.declared.unverified.Unverified.TheVariants as unverified
+use Rattle.journal_faults.specs.declared.unverified.Unverified.{Unverified}
+use Rattle.journal_faults.specs.declared.unverified.Unverified.TheVariants as unverified
 use Rattle.journal_verification.specs.declared.verification.Verified.{Verified}
 use Rattle.journal_verification.specs.Compared.{Differs}
 use Rattle.journal_verification.specs.Different.{DifferAt}

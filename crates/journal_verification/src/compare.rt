@@ -21,7 +21,7 @@ use crate::rows::Rising;
 use crate::schema::is_same_schema;
 use crate::side_by_side::readings_differ;
 use crate::table::{FURTHER, rowids, rows};
-use journal_office::{Difference, Table};
+use journal_faults::{Difference, Table};
 use memory_database::want_of_memory;
 use no_memory::NoMemory;
 use office_rows::fault_of_error;

@@ -6,7 +6,7 @@ ghost use Rattle.journal_verification.specs.Named.{HasKey, HasProfile, IsKeyOf, 
 ghost use Rattle.journal_verification.specs.Named.{IsProfileAt};
 ghost use Rattle.no_memory.specs.Witness.{witness};
 
-use journal_office::{Difference, Table};
+use journal_faults::{Difference, Table};
 use office_store::{number_at, word_at};
 use review_policy::{Fault, ProfileName};
 use sqlite::Row;

@@ -19,7 +19,7 @@ use crate::naming::named;
 use crate::reading::{read_on, read_rest};
 use crate::rows::earlier;
 use crate::table::key_width;
-use journal_office::{Difference, Table};
+use journal_faults::{Difference, Table};
 use memory_database::want_of_memory;
 use no_memory::NoMemory;
 use review_policy::Fault;

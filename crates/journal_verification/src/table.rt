@@ -3,7 +3,7 @@
 ghost use Rattle.std.specs.Prelude.{◌≡◌};
 ghost use Rattle.journal_verification.specs.Texts.{key_width, rowids_text, rows_text};
 
-use journal_office::Table;
+use journal_faults::Table;
 
 // The rows come in the order of an index, so that no more than one of them is held.
 const OFFICE: &str = "SELECT key, schema, listed FROM office ORDER BY key";

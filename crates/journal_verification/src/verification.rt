@@ -12,7 +12,8 @@ ghost use Rattle.journal_verification.specs.Verified.{IsUnverified, IsUnverified
 ghost use Rattle.journal_verification.specs.Verified.{IsVerified};
 
 use crate::compare::compare;
-use journal_office::{Difference, Unverified, rebuild};
+use journal_faults::{Difference, Unverified};
+use journal_office::rebuild;
 use memory_database::open_in_memory;
 use review_policy::Fault;
 use sealed_log::Seal;

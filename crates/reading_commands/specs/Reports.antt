@@ -10,8 +10,8 @@ use Rattle.desk_http.specs.Lines.{IsCut, IsWhole}
 use Rattle.journal_reports.specs.Evidence.{IsEvidence, IsNoEvidence}
 use Rattle.journal_reports.specs.History.{IsUnwritten, IsWritten}
 use Rattle.journal_reports.specs.Passing.{Asked}
-use Rattle.journal_office.specs.declared.no_evidence.NoEvidence.{NoEvidence}
-use Rattle.journal_office.specs.declared.unwritten.Unwritten.{Unwritten}
+use Rattle.journal_faults.specs.declared.no_evidence.NoEvidence.{NoEvidence}
+use Rattle.journal_faults.specs.declared.unwritten.Unwritten.{Unwritten}
 use Rattle.command_host.specs.declared.fault.CommandFault.{CommandFault}
 use Rattle.command_host.specs.declared.fault.CommandFault.TheVariants as fault
 use Rattle.command_host.specs.ReadFaults.{IsToldOf}

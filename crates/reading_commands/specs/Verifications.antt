@@ -10,7 +10,7 @@ use Rattle.desk_http.specs.Lines.{IsCut, IsWhole}
 use Rattle.journal_verification.specs.Looked.{HasLooked}
 use Rattle.journal_verification.specs.Verified.{IsUnverified, IsVerified}
 use Rattle.journal_verification.specs.declared.verification.KeptSeal.{KeptSeal}
-use Rattle.journal_office.specs.declared.unverified.Unverified.{Unverified}
+use Rattle.journal_faults.specs.declared.unverified.Unverified.{Unverified}
 use Rattle.journal_verification.specs.declared.verification.Verified.{Verified}
 use Rattle.command_host.specs.declared.fault.CommandFault.{CommandFault}
 use Rattle.command_host.specs.declared.fault.CommandFault.TheVariants as fault

@@ -12,7 +12,7 @@ ghost use Rattle.reading_commands.specs.Reports.{profile_of};
 use crate::name::word_of;
 use command_host::{CommandFault, PassFiles, print, text_at, told_of_text};
 use command_line::EvidenceWords;
-use journal_office::NoEvidence;
+use journal_faults::NoEvidence;
 use journal_reports::evidence;
 use memory_database::open_in_memory;
 use review_policy::{ProfileName, Text};

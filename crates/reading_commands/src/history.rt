@@ -11,7 +11,7 @@ ghost use Rattle.reading_commands.specs.Reports.{asked_of};
 use crate::name::name_of;
 use command_host::{CommandFault, PassFiles, text_at, told_of_text};
 use command_line::HistoryWords;
-use journal_office::Unwritten;
+use journal_faults::Unwritten;
 use journal_reports::{Filter, write_history};
 use memory_database::open_in_memory;
 use review_policy::Word;

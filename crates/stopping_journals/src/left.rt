@@ -4,7 +4,8 @@ ghost use Rattle.sqlite.specs.Held.{state};
 ghost use Rattle.office_store.specs.Shown.{IsIdle};
 
 use journal::Journaled;
-use journal_office::{NotReopened, Rebuilt, rebuild, reopen};
+use journal_faults::NotReopened;
+use journal_office::{Rebuilt, rebuild, reopen};
 use office_desk::Office;
 use sealed_log::{Seal, SealedLog};
 use sqlite::{Alter, Connection, Files};

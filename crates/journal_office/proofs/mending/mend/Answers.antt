@@ -5,8 +5,8 @@ use Rattle.office_policy.specs.Happened.{event_meant}
 use Rattle.office_desk.specs.Meant.{meaning_over}
 use Rattle.journal.specs.Kept.{IsKept, keeps}
 use Rattle.journal.specs.Writers.{writers_meant}
-use Rattle.journal_office.specs.Faults.{line_fault, log_fault}
-use Rattle.journal_office.specs.declared.not_reopened.NotReopened.TheVariants.{NoMemory}
+use Rattle.journal_faults.specs.Faults.{line_fault, log_fault}
+use Rattle.journal_faults.specs.declared.not_reopened.NotReopened.TheVariants.{NoMemory}
 use Rattle.journal_office.specs.Mending.{Mends}
 use Rattle.journal_office.proofs.MendFacts.{by_file, left_with, log_outside, no_journal, no_seal_there, not_read, seen_on}
 use Rattle.journal_office.proofs.mending.mend.Goals as goal

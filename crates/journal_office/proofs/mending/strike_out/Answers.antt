@@ -4,7 +4,7 @@ use Rattle.sealed_log.specs.Sealed.{IsBody, longest, seal_of, sealed_line}
 use Rattle.sealed_log.specs.Told.{HasTail}
 use Rattle.sealed_log.proofs.SealFacts.{length-sealed_line}
 use Rattle.journal.proofs.Lengths.{strike_entry}
-use Rattle.journal_office.specs.Faults.{log_fault}
+use Rattle.journal_faults.specs.Faults.{log_fault}
 use Rattle.journal_office.specs.Mending.{IsStruckOut}
 use Rattle.journal_office.proofs.MendFacts.{by_met, left_with, log_outside}
 use Rattle.journal_office.proofs.mending.strike_out.Goals as goal

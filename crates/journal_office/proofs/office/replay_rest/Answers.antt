@@ -2,7 +2,7 @@ use Rattle.std.proofs.Common.{arith, refl, ◌∷◌, [], None, Ok, Err, Result,
 use Rattle.std.specs.Prelude.{⊤}
 use Rattle.office_desk.specs.Meant.{meaning_over}
 use Rattle.journal.specs.Told.{place}
-use Rattle.journal_office.specs.declared.refused.Refused.{Refused}
+use Rattle.journal_faults.specs.declared.refused.Refused.{Refused}
 use Rattle.journal_office.specs.Steps.{HasBegun}
 use Rattle.journal_office.proofs.Refusals.{begun_on}
 use Rattle.journal_office.proofs.office.replay_rest.Goals as goal

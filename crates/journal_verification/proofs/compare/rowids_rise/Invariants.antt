@@ -2,7 +2,7 @@ use Rattle.std.proofs.Common.{◌≡◌, List, [], IsTrue}
 use Rattle.sqlite.specs.Held.{state}
 use Rattle.sqlite.specs.Order.{Row}
 use Rattle.sqlite.specs.State.{HasCleanDisk, IsUnchanged}
-use Rattle.journal_office.specs.declared.table.Table.{Table}
+use Rattle.journal_faults.specs.declared.table.Table.{Table}
 use Rattle.journal_verification.specs.Looked.{HasLooked}
 use Rattle.journal_verification.specs.Reading.{IsAt, IsGiving}
 use Rattle.journal_verification.specs.Rising.{IsTold}

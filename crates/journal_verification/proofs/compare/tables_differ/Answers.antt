@@ -3,7 +3,7 @@ use Rattle.std.specs.List.{AllByRecursion}
 use Rattle.std.proofs.lemmas.List.{take_all}
 use Rattle.sqlite.specs.Held.{state}
 use Rattle.journal_verification.specs.Same.{HaveSame, TellsTable, TellsTables}
-use Rattle.journal_office.specs.declared.table.Table.TheVariants.{Office}
+use Rattle.journal_faults.specs.declared.table.Table.TheVariants.{Office}
 use Rattle.journal_verification.specs.declared.table.TheConstants.{FURTHER}
 use Rattle.journal_verification.proofs.Looks.{all_six, first_further, first_of_all, one_more}
 use Rattle.journal_verification.proofs.SideBySide.{HaveSameUpTo, compares_as, compares_on, fails, then_fails}

@@ -1,7 +1,7 @@
 use Rattle.std.proofs.Common.{subst, sym}
 use Rattle.office_desk.specs.Meant.{meaning_over}
 use Rattle.journal.specs.Told.{place, placed_meant, start}
-use Rattle.journal_office.specs.declared.refused.Refused.{Refused}
+use Rattle.journal_faults.specs.declared.refused.Refused.{Refused}
 use Rattle.journal_office.specs.Steps.{IsFirstRead, IsUnbegun}
 use Rattle.journal_office.proofs.Refusals.{begun_read, unbegun, unbegun_none}
 use Rattle.journal_office.proofs.replay.Replay.begin.Goals as goal

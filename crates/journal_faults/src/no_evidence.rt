@@ -26,7 +26,7 @@ pub enum NoEvidence {
 
 impl From<Refused> for NoEvidence {
     ghost use Rattle.std.specs.Prelude.{◌≡◌};
-    ghost use Rattle.journal_office.specs.declared.no_evidence.NoEvidence.TheVariants as evidence;
+    ghost use Rattle.journal_faults.specs.declared.no_evidence.NoEvidence.TheVariants as evidence;
 
     ghost from_gives = { λ refused e. e ≡ evidence.Refused refused };
 
@@ -37,7 +37,7 @@ impl From<Refused> for NoEvidence {
 
 impl fmt::Display for NoEvidence {
     ghost use Rattle.std.specs.Prelude.{Some};
-    ghost use Rattle.journal_office.specs.FaultTexts.{no_evidence_text};
+    ghost use Rattle.journal_faults.specs.FaultTexts.{no_evidence_text};
 
     ghost output = { λ why. Some (no_evidence_text why) };
 

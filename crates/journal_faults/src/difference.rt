@@ -39,7 +39,7 @@ pub enum Difference {
 
 impl fmt::Display for Difference {
     ghost use Rattle.std.specs.Prelude.{Some};
-    ghost use Rattle.journal_office.specs.DifferenceTexts.{difference_text};
+    ghost use Rattle.journal_faults.specs.DifferenceTexts.{difference_text};
 
     ghost output = { λ difference. Some (difference_text difference) };
 

@@ -22,7 +22,7 @@ pub enum Why {
 
 impl fmt::Display for Why {
     ghost use Rattle.std.specs.Prelude.{Some};
-    ghost use Rattle.journal_office.specs.FaultTexts.{why_text};
+    ghost use Rattle.journal_faults.specs.FaultTexts.{why_text};
 
     ghost output = { λ why. Some (why_text why) };
 
@@ -56,7 +56,7 @@ pub struct Refused {
 /// `line`, the number and a colon, where there is a line; and why.
 impl fmt::Display for Refused {
     ghost use Rattle.std.specs.Prelude.{Some};
-    ghost use Rattle.journal_office.specs.FaultTexts.{refused_text};
+    ghost use Rattle.journal_faults.specs.FaultTexts.{refused_text};
 
     ghost output = { λ refused. Some (refused_text refused) };
 

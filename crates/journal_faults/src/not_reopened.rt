@@ -31,7 +31,7 @@ pub enum NotReopened {
 
 impl fmt::Display for NotReopened {
     ghost use Rattle.std.specs.Prelude.{Some};
-    ghost use Rattle.journal_office.specs.FaultTexts.{not_reopened_text};
+    ghost use Rattle.journal_faults.specs.FaultTexts.{not_reopened_text};
 
     ghost output = { λ why. Some (not_reopened_text why) };
 
@@ -52,7 +52,7 @@ impl Error for NotReopened {}
 
 impl From<LogFault> for NotReopened {
     ghost use Rattle.std.specs.Prelude.{◌≡◌};
-    ghost use Rattle.journal_office.specs.Faults.{log_fault};
+    ghost use Rattle.journal_faults.specs.Faults.{log_fault};
 
     ghost from_gives = { λ fault e. e ≡ log_fault fault };
 
@@ -66,7 +66,7 @@ impl From<LogFault> for NotReopened {
 
 impl From<AllocError> for NotReopened {
     ghost use Rattle.std.specs.Prelude.{◌≡◌};
-    ghost use Rattle.journal_office.specs.declared.not_reopened.NotReopened.TheVariants.{NoMemory};
+    ghost use Rattle.journal_faults.specs.declared.not_reopened.NotReopened.TheVariants.{NoMemory};
     ghost use Rattle.no_memory.specs.Witness.{witness};
 
     ghost from_gives = { λ _ e. e ≡ NoMemory witness };
@@ -78,7 +78,7 @@ impl From<AllocError> for NotReopened {
 
 impl From<Unreadable> for NotReopened {
     ghost use Rattle.std.specs.Prelude.{◌≡◌};
-    ghost use Rattle.journal_office.specs.Faults.{line_fault};
+    ghost use Rattle.journal_faults.specs.Faults.{line_fault};
 
     ghost from_gives = { λ why e. e ≡ line_fault why };
 
@@ -96,7 +96,7 @@ impl From<Unreadable> for NotReopened {
 
 impl From<Fault> for NotReopened {
     ghost use Rattle.std.specs.Prelude.{◌≡◌};
-    ghost use Rattle.journal_office.specs.declared.not_reopened.NotReopened.TheVariants.{Office};
+    ghost use Rattle.journal_faults.specs.declared.not_reopened.NotReopened.TheVariants.{Office};
 
     ghost from_gives = { λ fault e. e ≡ Office fault };
 

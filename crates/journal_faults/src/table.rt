@@ -1,7 +1,7 @@
 //! The tables of an office, by name.
 
 ghost use Rattle.std.specs.Prelude.{◌≡◌};
-ghost use Rattle.journal_office.specs.DifferenceTexts.{table_name};
+ghost use Rattle.journal_faults.specs.DifferenceTexts.{table_name};
 
 /// A table of an office.
 #[derive(Clone, Copy, Debug, Drop, PartialEq, Eq)]

@@ -6,15 +6,15 @@ use Rattle.office_founding.specs.Faults.{founding_fault_word}
 use Rattle.office_desk.specs.declared.replay.Unreplayed.{Unreplayed}
 use Rattle.office_desk.specs.declared.replay.Unreplayed.TheVariants as causes
 use Rattle.sealed_log.specs.FaultTexts.{unreadable_word}
-use Rattle.journal_office.specs.declared.no_evidence.NoEvidence.{NoEvidence}
-use Rattle.journal_office.specs.declared.no_evidence.NoEvidence.TheVariants as evidence
-use Rattle.journal_office.specs.declared.not_reopened.NotReopened.{NotReopened}
-use Rattle.journal_office.specs.declared.not_reopened.NotReopened.TheVariants as reopening
-use Rattle.journal_office.specs.declared.refused.Refused.{Refused}
-use Rattle.journal_office.specs.declared.refused.Why.{Why}
-use Rattle.journal_office.specs.declared.refused.Why.TheVariants as why
-use Rattle.journal_office.specs.declared.unwritten.Unwritten.{Unwritten}
-use Rattle.journal_office.specs.declared.unwritten.Unwritten.TheVariants as unwritten
+use Rattle.journal_faults.specs.declared.no_evidence.NoEvidence.{NoEvidence}
+use Rattle.journal_faults.specs.declared.no_evidence.NoEvidence.TheVariants as evidence
+use Rattle.journal_faults.specs.declared.not_reopened.NotReopened.{NotReopened}
+use Rattle.journal_faults.specs.declared.not_reopened.NotReopened.TheVariants as reopening
+use Rattle.journal_faults.specs.declared.refused.Refused.{Refused}
+use Rattle.journal_faults.specs.declared.refused.Why.{Why}
+use Rattle.journal_faults.specs.declared.refused.Why.TheVariants as why
+use Rattle.journal_faults.specs.declared.unwritten.Unwritten.{Unwritten}
+use Rattle.journal_faults.specs.declared.unwritten.Unwritten.TheVariants as unwritten
 
 -- why an event doesn't happen again: of a rule that refuses it the number and the word
 abbrev pub unreplayed_text : Unreplayed → List ℕ

@@ -23,7 +23,7 @@ pub enum Unwritten {
 
 impl From<Refused> for Unwritten {
     ghost use Rattle.std.specs.Prelude.{◌≡◌};
-    ghost use Rattle.journal_office.specs.declared.unwritten.Unwritten.TheVariants as unwritten;
+    ghost use Rattle.journal_faults.specs.declared.unwritten.Unwritten.TheVariants as unwritten;
 
     ghost from_gives = { λ refused e. e ≡ unwritten.Refused refused };
 
@@ -34,7 +34,7 @@ impl From<Refused> for Unwritten {
 
 impl From<AllocError> for Unwritten {
     ghost use Rattle.std.specs.Prelude.{◌≡◌};
-    ghost use Rattle.journal_office.specs.declared.unwritten.Unwritten.TheVariants.{NoMemory};
+    ghost use Rattle.journal_faults.specs.declared.unwritten.Unwritten.TheVariants.{NoMemory};
     ghost use Rattle.no_memory.specs.Witness.{witness};
 
     ghost from_gives = { λ _ e. e ≡ NoMemory witness };
@@ -46,7 +46,7 @@ impl From<AllocError> for Unwritten {
 
 impl fmt::Display for Unwritten {
     ghost use Rattle.std.specs.Prelude.{Some};
-    ghost use Rattle.journal_office.specs.FaultTexts.{unwritten_text};
+    ghost use Rattle.journal_faults.specs.FaultTexts.{unwritten_text};
 
     ghost output = { λ why. Some (unwritten_text why) };
 

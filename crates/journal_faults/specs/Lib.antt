@@ -1,0 +1,3 @@
+pub mod DifferenceTexts
+pub mod FaultTexts
+pub mod Faults
