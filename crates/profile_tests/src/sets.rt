@@ -61,7 +61,8 @@ fn texts_that_no_document_brings_about(rt: HostRuntime) -> Result<(), Fail> {
     Ok(())
 }
 
-// Whether a profile with CAP_CHOWN, CAP_KILL and a filter is read, or out of memory is reported.
+// Whether a profile with CAP_CHOWN, CAP_KILL and a filter is read, or out of memory is reported. That there is none with ample memory
+// `documents_are_read_with_ample_memory` shows.
 fn is_read_or_memory(told: &Result<Profile, DocFault>) -> bool {
     match told {
         Ok(profile) => profile.caps.permitted.bits() == 0b10_0001 && profile.filter.is_some(),
@@ -75,6 +76,15 @@ const DOCUMENTS: [&str; 2] = [
     r#"{"capabilities":{"effective":["CAP_KILL"],"permitted":["CAP_CHOWN","CAP_KILL"]},"seccomp":{"architectures":["SCMP_ARCH_X86"],"defaultAction":"SCMP_ACT_LOG",
         "flags":["SECCOMP_FILTER_FLAG_LOG"],"syscalls":[{"action":"SCMP_ACT_ALLOW","args":[{"index":0,"op":"SCMP_CMP_EQ","value":1}],"names":["read"]}]}}"#,
 ];
+
+#[test]
+fn documents_are_read_with_ample_memory(rt: HostRuntime) -> Result<(), Fail> {
+    for document in DOCUMENTS {
+        let profile = read(rt.alloc(), document.as_bytes())?;
+        assert_eq!(rt; profile.caps.permitted.bits(), 0b10_0001);
+    }
+    Ok(())
+}
 
 // Run with each allocation refused in turn, as `rt try --test --fail-alloc N` does, it shows that a
 // refused allocation is reported as out of memory and as nothing else.

@@ -6,6 +6,7 @@ use review_policy::WordFault;
 use sqlite::Connection;
 use std::alloc::Global;
 use std::process::Abort;
+use std::test::Fail;
 
 // The transcript of these calls in memory.
 fn said_in_memory(alloc: Global, before: &str, calls: &str) -> Result<String, WordFault> {
@@ -14,7 +15,7 @@ fn said_in_memory(alloc: Global, before: &str, calls: &str) -> Result<String, Wo
 }
 
 // Whether a transcript goes on as a write that runs or as one that is refused, unless memory is refused to a call
-// before it or to the read after it.
+// before it or to the read after it. With ample memory none is, as `writes_run_with_ample_memory` shows.
 fn is_kept(said: &str, before: &str, done: &str, refused: &str) -> bool {
     match said.strip_prefix(before) {
         Some(rest) => rest == done
@@ -82,4 +83,13 @@ Err(NoMemory(NoMemory { refused: AllocError }))
 #[test]
 fn a_revision_is_added_or_the_open_one_stays(rt: HostRuntime) {
     assert_kept(&rt, rt.alloc(), ADDED, IS_CLOSED, IS_OPEN);
+}
+
+#[test]
+fn writes_run_with_ample_memory(rt: HostRuntime) -> Result<(), Fail> {
+    for (before, done) in [(ENROLLED, IS_REVIEWER), (ADDED, IS_CLOSED)] {
+        let said = said_in_memory(rt.alloc(), before, done)?;
+        assert_eq!(rt; said.as_str().strip_prefix(before), Some(done));
+    }
+    Ok(())
 }
