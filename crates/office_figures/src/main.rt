@@ -1,4 +1,4 @@
-//! What the calls of the store, requests, sheets and findings take.
+//! Prints what the calls of the store, requests, sheets and findings take.
 //!
 //! `store FILE COUNT REVISIONS SIZE` founds an office in FILE, which must not be there, enrols COUNT users, adds as many
 //! revisions and votes, ten of each a profile, and one more profile of REVISIONS revisions with bodies of SIZE bytes; COUNT and
@@ -9,22 +9,24 @@
 //! `sheets COUNT` shows a filter of COUNT entries, 2,048 at most, against another of as many, and then against no filter.
 //! `findings BASE NEW TIMES` reads two documents and asks so often for the findings between them.
 //!
-//! What was found or done is counted to standard output, and how many microseconds a call took is written to standard
-//! error.
+//! Without words it measures each with small numbers. What was found or done is counted to standard output, and how many
+//! microseconds a call took is written to standard error.
+#![tactic(auto)]
 
 mod call;
 mod figure;
 mod fill;
 mod office;
 mod request;
+mod rest;
 mod sample;
 mod sheets;
 
-use crate::figures::office::{Step, time_office};
-use crate::figures::sample::Sizes;
-use crate::figures::sheets::{time_documents, time_sheets};
+use crate::office::{Step, time_office};
+use crate::sample::Sizes;
+use crate::sheets::{time_documents, time_sheets};
 use anyhow::{Context, Result, bail};
-use std::fs;
+use std::{env, fs};
 
 fn number(word: &str) -> Result<u32> {
     word.parse::<u32>().context("a number")
@@ -46,8 +48,8 @@ fn sizes_of(count: &str, revisions: &str, size: &str) -> Result<Sizes> {
     })
 }
 
-/// Measures each with small numbers, in `figures.db`, which is removed, and with two of the examples.
-pub fn measure_small(rt: &HostRuntime) -> Result<()> {
+// Measures each with small numbers, in `figures.db`, which is removed, and with two documents of `data/`.
+fn measure_small(rt: &HostRuntime) -> Result<()> {
     let sizes = Sizes {
         count: 20,
         revisions: 30,
@@ -65,17 +67,13 @@ pub fn measure_small(rt: &HostRuntime) -> Result<()> {
         }
     }
     time_sheets(rt, 256)?;
-    time_documents(
-        rt,
-        "examples/closed.json",
-        "examples/listener.fixed.json",
-        1,
-    )
+    time_documents(rt, "closed.json", "three-calls.json", 1)
 }
 
-/// Measures what these words say.
-pub fn measure(rt: &HostRuntime, words: &[&str]) -> Result<()> {
+// Measures what these words say.
+fn measure(rt: &HostRuntime, words: &[&str]) -> Result<()> {
     match words {
+        [] => measure_small(rt),
         [which, path, count, revisions, size] => {
             let step = step_of(which)?;
             let sizes = sizes_of(count, revisions, size)?;
@@ -83,6 +81,12 @@ pub fn measure(rt: &HostRuntime, words: &[&str]) -> Result<()> {
         }
         ["sheets", count] => time_sheets(rt, number(count)?),
         ["findings", base, new, times] => time_documents(rt, base, new, number(times)?),
-        _ => bail!("usage: office_transcripts [store | desk | sheets | findings WORDS]"),
+        _ => bail!("usage: office_figures [store | desk | sheets | findings WORDS]"),
     }
+}
+
+fn main(rt: HostRuntime) -> Result<()> {
+    let words: Vec<String> = env::args(&rt)?.skip(1).collect(rt.alloc())?;
+    let words: Vec<&str> = words.iter().map(String::as_str).collect(rt.alloc())?;
+    measure(&rt, &words)
 }

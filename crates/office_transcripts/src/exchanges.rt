@@ -1,17 +1,18 @@
 //! A transcript of exchanges over HTTP, and what is answered to its requests.
 
-use crate::shown::bytes::bytes_of;
-use crate::shown::memory_office::MemoryOffice;
-use crate::shown::place::Place;
+use crate::bytes::bytes_of;
+use crate::place::Place;
+use crate::response::{lines_of, new_office};
 use anyhow::{Result, bail};
 use http_requests::OfficeRouter;
+use test_offices::trial::TrialOffice;
 
 // A transcript up to some line of it.
 #[derive(Drop)]
 struct Transcript<'a> {
     router: OfficeRouter,
     // That of the last heading.
-    office: MemoryOffice,
+    office: TrialOffice,
     place: Place<'a>,
     // The last requests, each with the lines of its response: what is shown of each of them is further below.
     answered: Vec<(&'a str, Vec<u8>)>,
@@ -37,7 +38,7 @@ impl<'a> Transcript<'a> {
             self.compare(rt)?;
         }
         let request = bytes_of(rt.alloc(), line)?;
-        let response = self.office.lines_to(rt.alloc(), &self.router, &request)?;
+        let response = lines_of(rt.alloc(), &mut self.office, &self.router, &request)?;
         self.answered.push((line, response))?;
         Ok(())
     }
@@ -45,7 +46,7 @@ impl<'a> Transcript<'a> {
     // Begins with another office.
     fn begin(&mut self, rt: &HostRuntime, heading: &'a str) -> Result<()> {
         self.compare(rt)?;
-        self.office = MemoryOffice::new(rt.alloc())?;
+        self.office = new_office(rt)?;
         self.place.enter(heading);
         Ok(())
     }
@@ -71,7 +72,7 @@ pub fn differing_in(rt: &HostRuntime, file: &str, text: &str) -> Result<usize> {
     }
     let mut transcript = Transcript {
         router: OfficeRouter::new(rt.alloc())?,
-        office: MemoryOffice::new(rt.alloc())?,
+        office: new_office(rt)?,
         place: Place::new(file, "> "),
         answered: Vec::new(rt.alloc()),
         shown: String::new(rt.alloc()),

@@ -1,6 +1,6 @@
 //! What sheets and findings take.
 
-use crate::figures::figure::tell_time;
+use crate::figure::tell_time;
 use anyhow::Result;
 use cap_sets::Caps;
 use profile_text::{Profile, read};

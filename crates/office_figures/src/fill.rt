@@ -1,17 +1,15 @@
 //! A new office with so many users, revisions and votes, and one long profile.
 
-ghost use Rattle.sqlite.specs.Held.{state};
-ghost use Rattle.office_store.specs.Shown.{IsIdle};
-
-use crate::figures::call::{add, vote};
-use crate::figures::figure::tell_time;
-use crate::figures::sample::{Profiles, Sample, Sizes, body, samples};
+use crate::call::{add, vote};
+use crate::figure::tell_time;
+use crate::rest::rest;
+use crate::sample::{Profiles, Sample, Sizes, body, samples};
 use anyhow::{Context, Result};
 use cap_sets::Caps;
 use office_founding::found;
 use office_store::{put_user, set_issued};
 use profile_text::digest;
-use review_policy::{Fault, Word};
+use review_policy::Word;
 use sqlite::{Alter, Connection};
 use std::alloc::Global;
 use std::time::Instant;
@@ -25,13 +23,11 @@ enum Part {
 }
 
 // Founds an office with the one listed capability CAP_SYS_ADMIN. The token of its first user is the name.
-fn found_office<S: Alter>(alloc: Global, conn: &mut Connection<S>) -> Result<()>
-    requires { IsIdle (state S.Store conn.old) }
-    ensures { IsIdle (state S.Store conn.new) }
-{
+fn found_office<S: Alter>(alloc: Global, conn: &mut Connection<S>) -> Result<()> {
     let name = Word::new(alloc, "root")?;
     let team = Word::new(alloc, "ops")?;
     let listed = Caps::from_name("CAP_SYS_ADMIN").context("a capability")?;
+    rest(conn)?;
     found(conn, &name, &team, &digest(b"root"), listed)?;
     Ok(())
 }
@@ -43,30 +39,30 @@ fn submit<S: Alter>(
     sample: &Sample,
     body: &str,
     issued: u32,
-) -> Result<(), Fault>
-    requires { IsIdle (state S.Store conn.old) }
-    ensures { IsIdle (state S.Store conn.new) }
-{
+) -> Result<()> {
+    rest(conn)?;
     let added = add(alloc, conn, sample, body)?;
     if added == issued {
-        set_issued(conn, &sample.profile, added)
-    } else {
-        Ok(())
+        rest(conn)?;
+        set_issued(conn, &sample.profile, added)?;
     }
+    Ok(())
+}
+
+// Enrols a user.
+fn enrol<S: Alter>(conn: &mut Connection<S>, sample: &Sample) -> Result<()> {
+    rest(conn)?;
+    put_user(conn, &sample.user)?;
+    Ok(())
 }
 
 // Enrols a user and adds a revision of a short profile, the fifth of which is issued, and a vote on its first.
-fn put_short<S: Alter>(
-    alloc: Global,
-    conn: &mut Connection<S>,
-    sample: &Sample,
-) -> Result<(), Fault>
-    requires { IsIdle (state S.Store conn.old) }
-    ensures { IsIdle (state S.Store conn.new) }
-{
-    put_user(conn, &sample.user)?;
+fn put_short<S: Alter>(alloc: Global, conn: &mut Connection<S>, sample: &Sample) -> Result<()> {
+    enrol(conn, sample)?;
     submit(alloc, conn, sample, "{}", 5)?;
-    vote(conn, sample)
+    rest(conn)?;
+    vote(conn, sample)?;
+    Ok(())
 }
 
 fn put<S: Alter>(
@@ -75,13 +71,10 @@ fn put<S: Alter>(
     part: Part,
     sample: &Sample,
     body: &str,
-) -> Result<(), Fault>
-    requires { IsIdle (state S.Store conn.old) }
-    ensures { IsIdle (state S.Store conn.new) }
-{
+) -> Result<()> {
     match part {
         Part::Short => put_short(alloc, conn, sample),
-        Part::LongUsers => put_user(conn, &sample.user),
+        Part::LongUsers => enrol(conn, sample),
         Part::LongRevisions => submit(alloc, conn, sample, body, 1),
     }
 }
@@ -93,10 +86,7 @@ fn put_all<S: Alter>(
     part: Part,
     sizes: &Sizes,
     body: &str,
-) -> Result<()>
-    requires { IsIdle (state S.Store conn.old) }
-    ensures { IsIdle (state S.Store conn.new) }
-{
+) -> Result<()> {
     let (profiles, times, stride, count) = match part {
         Part::Short => (Profiles::Short, sizes.count, 1, sizes.count),
         Part::LongUsers => (Profiles::Long, 20, 1, 20),
@@ -110,10 +100,7 @@ fn put_all<S: Alter>(
 }
 
 /// Founds an office in an empty store and fills it, and prints what that took.
-pub fn fill<S: Alter>(rt: &HostRuntime, conn: &mut Connection<S>, sizes: &Sizes) -> Result<()>
-    requires { IsIdle (state S.Store conn.old) }
-    ensures { IsIdle (state S.Store conn.new) }
-{
+pub fn fill<S: Alter>(rt: &HostRuntime, conn: &mut Connection<S>, sizes: &Sizes) -> Result<()> {
     let start = Instant::now(rt)?;
     let body = body(rt.alloc(), sizes)?;
     found_office(rt.alloc(), conn)?;

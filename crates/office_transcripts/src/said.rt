@@ -1,7 +1,7 @@
 //! What commands print.
 
-use crate::shown::place::Place;
-use crate::shown::run::say_line;
+use crate::place::Place;
+use crate::run::say_line;
 use anyhow::{Result, bail};
 use std::alloc::Global;
 use std::fs;

@@ -1,7 +1,7 @@
 //! Requests of each kind, and how long they take.
 
-use crate::figures::figure::{Figure, STRIDE, times_of};
-use crate::figures::sample::{Profiles, Sizes, name};
+use crate::figure::{Figure, STRIDE, times_of};
+use crate::sample::{Profiles, Sizes, name};
 use anyhow::Result;
 use json_requests::read_line;
 use json_tree::Scratch;

@@ -10,11 +10,11 @@ mod desks;
 mod messages;
 mod over_http;
 
-use crate::shown::place::Place;
-use crate::shown::verdicts::asked::Asked;
-use crate::shown::verdicts::conversation::{Conversation, Transcript};
-use crate::shown::verdicts::desks::{ask_at_a_desk, ask_at_the_trial_desk};
-use crate::shown::verdicts::over_http::ask_over_http;
+use crate::place::Place;
+use crate::verdicts::asked::Asked;
+use crate::verdicts::conversation::{Conversation, Transcript};
+use crate::verdicts::desks::{ask_at_a_desk, ask_at_the_trial_desk};
+use crate::verdicts::over_http::ask_over_http;
 use anyhow::Result;
 
 /// A way of asking.

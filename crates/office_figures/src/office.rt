@@ -1,14 +1,11 @@
 //! An office that is filled, and then timed.
 
-ghost use Rattle.sqlite.specs.Held.{state};
-ghost use Rattle.office_store.specs.Shown.{IsIdle};
-
-use crate::at_rest::at_rest;
-use crate::figures::call::time_calls;
-use crate::figures::figure::tell_time;
-use crate::figures::fill::fill;
-use crate::figures::request::time_requests;
-use crate::figures::sample::{Profiles, Sizes};
+use crate::call::time_calls;
+use crate::figure::tell_time;
+use crate::fill::fill;
+use crate::request::time_requests;
+use crate::rest::rest;
+use crate::sample::{Profiles, Sizes};
 use anyhow::{Result, bail};
 use memory_database::open_in_memory;
 use office_desk::Office;
@@ -36,9 +33,9 @@ fn ask<S: Alter + Drop>(
     rt: &HostRuntime,
     conn: Connection<S>,
     sizes: &Sizes,
-) -> Result<Connection<S>>
-    requires { IsIdle (state S.Store conn) }
-{
+) -> Result<Connection<S>> {
+    let mut conn = conn;
+    rest(&mut conn)?;
     let Ok(mut office) = Office::over(conn) else {
         bail!("no office")
     };
@@ -52,9 +49,7 @@ fn fill_or_call<S: Alter>(
     conn: &mut Connection<S>,
     step: Step,
     sizes: &Sizes,
-) -> Result<()>
-    requires { IsIdle (state S.Store conn.old) }
-{
+) -> Result<()> {
     match step {
         Step::Fill => fill(rt, conn, sizes),
         _ => time_calls(rt, conn, sizes),
@@ -68,10 +63,10 @@ fn take<S: Alter + Drop>(
     step: Step,
     sizes: &Sizes,
 ) -> Result<Connection<S>> {
-    let mut conn = at_rest(conn)?;
     if let Step::Ask = step {
         return ask(rt, conn, sizes);
     }
+    let mut conn = conn;
     fill_or_call(rt, &mut conn, step, sizes)?;
     Ok(conn)
 }

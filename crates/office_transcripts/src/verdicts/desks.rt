@@ -1,11 +1,11 @@
 //! Conversations at desks.
 
-use crate::shown::forget;
-use crate::shown::place::Place;
-use crate::shown::run::say_line;
-use crate::shown::verdicts::asked::Asked;
-use crate::shown::verdicts::conversation::Conversation;
-use crate::shown::verdicts::messages::is_change;
+use crate::forget;
+use crate::place::Place;
+use crate::run::say_line;
+use crate::verdicts::asked::Asked;
+use crate::verdicts::conversation::Conversation;
+use crate::verdicts::messages::is_change;
 use anyhow::Result;
 use std::alloc::Global;
 use std::fs;

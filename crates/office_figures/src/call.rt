@@ -3,8 +3,9 @@
 ghost use Rattle.sqlite.specs.Held.{state};
 ghost use Rattle.office_store.specs.Shown.{IsIdle};
 
-use crate::figures::figure::{Figure, STRIDE, times_of};
-use crate::figures::sample::{Profiles, Sample, Sizes, body, samples};
+use crate::figure::{Figure, STRIDE, times_of};
+use crate::rest::rest;
+use crate::sample::{Profiles, Sample, Sizes, body, samples};
 use anyhow::Result;
 use cap_sets::Caps;
 use office_founding::{OpeningFault, check_office, listed};
@@ -121,7 +122,6 @@ pub fn add<S: Alter>(
     body: &str,
 ) -> Result<u32, Fault>
     requires { IsIdle (state S.Store conn.old) }
-    ensures { IsIdle (state S.Store conn.new) }
 {
     let number = next_number(alloc, conn, &sample.profile)?;
     let revision = revision_of(alloc, sample, number, body)?;
@@ -132,7 +132,6 @@ pub fn add<S: Alter>(
 /// Has the user approve the first revision.
 pub fn vote<S: Alter>(conn: &mut Connection<S>, sample: &Sample) -> Result<(), Fault>
     requires { IsIdle (state S.Store conn.old) }
-    ensures { IsIdle (state S.Store conn.new) }
 {
     let ballot = Ballot {
         approves: true,
@@ -179,7 +178,6 @@ fn make<S: Alter>(
     body: &str,
 ) -> Result<bool, Fault>
     requires { IsIdle (state S.Store conn.old) }
-    ensures { IsIdle (state S.Store conn.new) }
 {
     let Sample { user, profile } = sample;
     match call {
@@ -220,10 +218,8 @@ fn make_timed<S: Alter>(
     sample: &Sample,
     body: &str,
     figure: &mut Figure,
-) -> Result<()>
-    requires { IsIdle (state S.Store conn.old) }
-    ensures { IsIdle (state S.Store conn.new) }
-{
+) -> Result<()> {
+    rest(conn)?;
     let start = Instant::now(rt)?;
     let found = make(rt.alloc(), conn, call, sample, body);
     let time = start.elapsed(rt)?;
@@ -239,10 +235,7 @@ fn time_call<S: Alter>(
     profiles: Profiles,
     samples: &[Sample],
     body: &str,
-) -> Result<()>
-    requires { IsIdle (state S.Store conn.old) }
-    ensures { IsIdle (state S.Store conn.new) }
-{
+) -> Result<()> {
     let mut figure = Figure::NONE;
     for sample in samples {
         make_timed(rt, conn, call, sample, body, &mut figure)?;
@@ -258,10 +251,7 @@ fn time_about<S: Alter>(
     profiles: Profiles,
     sizes: &Sizes,
     body: &str,
-) -> Result<()>
-    requires { IsIdle (state S.Store conn.old) }
-    ensures { IsIdle (state S.Store conn.new) }
-{
+) -> Result<()> {
     let all = samples(rt.alloc(), profiles, times_of(sizes), STRIDE, sizes.count)?;
     for call in CALLS {
         time_call(rt, conn, call, profiles, &all, body)?;
@@ -271,10 +261,12 @@ fn time_about<S: Alter>(
 
 /// Prints how many users there are and what is listed. Then makes each call about short profiles, and each about the long
 /// one.
-pub fn time_calls<S: Alter>(rt: &HostRuntime, conn: &mut Connection<S>, sizes: &Sizes) -> Result<()>
-    requires { IsIdle (state S.Store conn.old) }
-    ensures { IsIdle (state S.Store conn.new) }
-{
+pub fn time_calls<S: Alter>(
+    rt: &HostRuntime,
+    conn: &mut Connection<S>,
+    sizes: &Sizes,
+) -> Result<()> {
+    rest(conn)?;
     let (count, listed) = (sizes.count, check_office(conn)?.bits());
     println!(rt; "{count} users, revisions and votes; listed capabilities {listed:#x}")?;
     time_about(rt, conn, Profiles::Short, sizes, "{}")?;

@@ -1,6 +1,6 @@
 //! What calls came to.
 
-use crate::figures::sample::{Profiles, Sizes};
+use crate::sample::{Profiles, Sizes};
 use anyhow::Result;
 use std::time::{Duration, Instant};
 

@@ -1,15 +1,16 @@
 //! Conversations over HTTP.
 
-use crate::shown::bytes::push_response;
-use crate::shown::memory_office::MemoryOffice;
-use crate::shown::place::Place;
-use crate::shown::verdicts::asked::Asked;
-use crate::shown::verdicts::conversation::Conversation;
-use crate::shown::verdicts::messages::{message_of, response_of};
+use crate::bytes::push_response;
+use crate::place::Place;
+use crate::response::{lines_of, new_office};
+use crate::verdicts::asked::Asked;
+use crate::verdicts::conversation::Conversation;
+use crate::verdicts::messages::{message_of, response_of};
 use anyhow::Result;
 use http_requests::OfficeRouter;
 use std::alloc::Global;
 use std::iter::zip;
+use test_offices::trial::TrialOffice;
 
 // The lines that show the response to a request that has this answer.
 fn wanted(alloc: Global, request: &str, answer: &str) -> Result<String> {
@@ -23,7 +24,7 @@ fn wanted(alloc: Global, request: &str, answer: &str) -> Result<String> {
 fn ask_one(
     rt: &HostRuntime,
     place: &mut Place,
-    office: &mut MemoryOffice,
+    office: &mut TrialOffice,
     router: &OfficeRouter,
     request: &str,
     answer: &str,
@@ -34,7 +35,7 @@ fn ask_one(
         println!(rt; "not asked over HTTP: {request}")?;
         return Ok(());
     };
-    let told = office.lines_to(rt.alloc(), router, message.as_bytes())?;
+    let told = lines_of(rt.alloc(), office, router, message.as_bytes())?;
     let told = String::from_utf8_lossy(rt.alloc(), &told)?;
     asked.add(told.as_str(), "< HTTP/1.1 200 ", "< HTTP/1.1 403 ");
     let shown = wanted(rt.alloc(), request, answer)?;
@@ -45,7 +46,7 @@ fn ask_one(
 fn ask_each(
     rt: &HostRuntime,
     place: &mut Place,
-    office: &mut MemoryOffice,
+    office: &mut TrialOffice,
     router: &OfficeRouter,
     conversation: &Conversation,
     asked: &mut Asked,
@@ -67,6 +68,6 @@ pub fn ask_over_http(
     asked: &mut Asked,
 ) -> Result<()> {
     let router = OfficeRouter::new(rt.alloc())?;
-    let mut office = MemoryOffice::new(rt.alloc())?;
+    let mut office = new_office(rt)?;
     ask_each(rt, place, &mut office, &router, conversation, asked)
 }
