@@ -171,8 +171,8 @@ fn open_again(alloc: Global, files: Files<Memory>, journal: Memory) -> Result<Fo
 }
 
 impl Remains {
-    /// That an office and its journal open again, where these bytes stand behind that, with each event
-    /// that was answered and at most one more; and that the tables are those that the journal tells.
+    /// That an office and its journal open again, where these bytes stand behind that, with as many
+    /// events as were answered or one more; and that the tables are those that the journal tells.
     /// Gives the place of what it tells.
     pub(crate) fn expect_told(
         &self,
