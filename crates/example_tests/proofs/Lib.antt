@@ -12,3 +12,6 @@ pub mod Verified
 pub mod Approved
 pub mod Built
 pub mod Unwritten
+pub mod Calls
+pub mod Endings
+pub mod Begun

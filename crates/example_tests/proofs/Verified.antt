@@ -52,7 +52,7 @@ abbrev number_of : Value → ℕ
 number_of (Int (pos n)) = n
 number_of _ = 0
 
-abbrev listed_in : List Row → ℕ
+abbrev pub listed_in : List Row → ℕ
 listed_in [] = 0
 listed_in (row ∷ more) = number_of (column row 3)
 

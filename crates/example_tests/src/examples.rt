@@ -1,13 +1,20 @@
-//! Small offices, journals, connections and filters, and what definitions say of them.
+//! Small offices, journals, connections, filters, streams and files, and what definitions say of
+//! them.
 
 pub mod approvals;
 pub mod buildings;
+pub mod calls;
 pub mod causes;
+pub mod documents;
+pub mod endings;
 pub mod filters;
+pub mod foundings;
 pub mod histories;
 pub mod journals;
 pub mod leavings;
+pub mod networks;
 pub mod openings;
+pub mod reads;
 pub mod replays;
 pub mod revisions;
 pub mod stores;
