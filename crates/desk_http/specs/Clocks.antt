@@ -1,6 +1,6 @@
 -- Until when a stream is read and written, by what a clock shows.
-use Rattle.std.specs.Prelude.{◌≡◌, ◌⊎◌, ◌+◌, ◌<◌, ◌≤◌, Result, Ok, Err}
-use Rattle.std.specs.Duration.{as_nanos}
+use Rattle.std.specs.Prelude.{◌≡◌, ◌⊎◌, ◌+◌, ◌<◌, ◌≤◌, ℕ, Result, Ok, Err}
+use Rattle.std.specs.Duration.{as_nanos, FitsDuration}
 use Rattle.std.specs.IoError.{error_kind}
 use Rattle.std.specs.declared.io.Error.{Error}
 use Rattle.std.specs.declared.io.ErrorKind.TheVariants.{InvalidInput, TimedOut}
@@ -12,10 +12,10 @@ module _ (Shows : Result Duration Error → Type 0) where
   EndsAfter length end =
       (now : Duration) × Shows (Ok now) × (as_nanos end ≡ as_nanos now + as_nanos length)
 
-  -- no moment is so long after now: the clock failed, or can't count so far
-  abbrev pub HasNoEnd : Error → Type 0
-  HasNoEnd e = Shows (Err e)
-      ⊎ ((now : Duration) × Shows (Ok now) × (error_kind e ≡ InvalidInput))
+  -- no moment is so many nanoseconds after now: the clock failed, or can't count so far
+  abbrev pub HasNoEnd : (nanos : ℕ) → Error → Type 0
+  HasNoEnd nanos e = Shows (Err e) ⊎ ((now : Duration) × Shows (Ok now)
+      × (FitsDuration (as_nanos now + nanos) → ⊥) × (error_kind e ≡ InvalidInput))
 
   -- how long it is from what the clock shows until then, which is never nothing; or the clock
   -- failed, or shows that moment or a later one

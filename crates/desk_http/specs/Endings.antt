@@ -41,14 +41,14 @@ module _ {T : Type 0} (Waits : T → Duration → Result (Unit {0}) Error → Ty
   module _ (Shows : Result Duration Error → Type 0)
       (Ends : T → Result (Unit {0}) Error → Type 0) where
     -- It was said that the response has ended, and then what the client still sent was taken, within a
-    -- second and by 10,000 calls at most. Or nothing was, for the clock failed, or that couldn't be
-    -- said.
+    -- second and by 10,000 calls at most. Or nothing was, for the clock failed or can't count a second
+    -- on, or that couldn't be said.
     abbrev pub HasTaken : (old new : T) → Type 0
     HasTaken old new =
         (Ends old (Ok tt)
         × ((now end : Duration) × Shows (Ok now) × (as_nanos end ≡ as_nanos now + 1000000000)
         × IsTaken (IsLeft Shows end) MOST_READS old new))
-        ⊎ ((new ≡ old) × ((e : Error) × (HasNoEnd Shows e ⊎ Ends old (Err e))))
+        ⊎ ((new ≡ old) × ((e : Error) × (HasNoEnd Shows 1000000000 e ⊎ Ends old (Err e))))
 
     abbrev pub TakesIf : (is_unread : Bool) → (old new : T) → Type 0
     TakesIf true old new = HasTaken old new

@@ -1,4 +1,4 @@
-//! HTTP with an office: one exchange, and exchanges over loopback one after the other, each with
+//! HTTP with an office: one exchange, and exchanges over connections one after the other, each with
 //! its deadline.
 #![tactic(auto)]
 

@@ -1,4 +1,4 @@
-//! A server over loopback.
+//! A server over the connections of a listener.
 
 ghost use Rattle.std.specs.Prelude.{◌≡◌, IfOk};
 ghost use Rattle.desk_http.specs.Lasting.{HasServedWithin};

@@ -134,6 +134,20 @@ shows_just e shown = cc
 pub is_just : (now later : Duration) → at_five (Ok now) → at_five (Ok later) → as_nanos later < as_nanos now + 1000000000
 is_just now later was is = let same : now ≡ later = cc in let k = ap as_nanos same in omega (arith, k)
 
+-- and a second later can be counted to
+pub counts_on : HasTaken waits gives_one at_five said 3 3 → ⊥
+counts_on (inl taken) =
+    elim (takes_all (IsLeft at_five taken.1.1) (in_time at_five shows_just is_just taken.1.0 taken.1.1 taken.1.2 taken.1.3) 10000 3 3 taken.1.4) [
+      | inl is ↦ omega (arith, is)
+      | inr is ↦ omega (arith, is)
+    ]
+counts_on (inr (same, (e, inl (inl shown)))) = shows_just e shown
+counts_on (inr (same, (e, inl (inr (now, is, late, kind))))) =
+    let five : now ≡ moment 5 0 = cc in
+    let k = ap as_nanos five in
+    late (omega (arith, k))
+counts_on (inr (same, (e, inr unsaid))) = let k = unsaid in cc
+
 -- it shows one of two moments within a second
 module _ (first second : Duration) where
   pub shows_one : (e : Error) → shows_either first second (Err e) → ⊥

@@ -4,7 +4,7 @@ use journal::{read_line, text};
 use sealed_log::Unreadable;
 use std::test::Fail;
 
-// A line of each kind, as another printer of JSON writes it.
+// A line of each kind but `done`, as another printer of JSON writes it.
 const LINES: [&str; 10] = [
     "{\"digest\":\"ababababababababababababababababababababababababababababababab01\",\
      \"event\":\"found\",\"listed\":[\"CAP_NET_ADMIN\",\"CAP_SYS_ADMIN\"],\"team\":\"core\",\"user\":\"reg\"}",

@@ -10,8 +10,8 @@ use std::alloc::{AllocError, Global};
 use std::io;
 
 /// A file in memory. A crash ends the program, and the file with it, so of what a crash leaves
-/// nothing can be read: it is said to leave just what is seen, and a sync has nothing to do. Only
-/// want of memory makes a call fail, and the file is then as it was.
+/// nothing can be read: it is said to leave just what is seen, and a sync has nothing to do. A write
+/// fails only for want of memory, a read only past the end, and the file is then as it was.
 #[derive(Drop)]
 pub struct VolatileFile {
     bytes: Vec<u8>,

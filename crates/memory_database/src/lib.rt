@@ -1,5 +1,4 @@
-//! A database in memory, in pages: a write costs by the depth of a tree, and not by the number of
-//! its rows.
+//! A database in memory, in pages.
 #![tactic(auto)]
 
 mod copy;

@@ -9,8 +9,8 @@ use sqlite_disk::{Disk, Tally};
 use std::io;
 
 /// A disk with a name. How long it is it tells only while the name leads to it; else that call fails.
-/// So who asks for the length before each write doesn't write to a file that was renamed, removed
-/// or replaced.
+/// So who asks for the length before each write finds a file that was renamed, removed or replaced
+/// by then.
 #[derive(Drop)]
 pub struct NamedDisk<D: Disk, N: Name> {
     inner: D,

@@ -89,7 +89,7 @@ LacksRowidFor (deletes_hold p) rows = ⊥
 LacksRowidFor _ rows = LacksRowid rows
 
 -- for this fault a database has no place for a row of the write: it has no rowid for it, or the row
--- has more than a billion bytes
+-- is too big
 abbrev pub LacksPlace : Write → Database → Fault → Type 0
 LacksPlace w db (NoMemory _) = ⊥
 LacksPlace w db Disk = LacksRowidFor w (db.trees (tree_of w))

@@ -22,15 +22,15 @@ use sqlite::{Alter, Connection};
 
 /// Where a connection shows tables, and no two users of those that a write makes show one token,
 /// SQLite refuses none of its statements for a key that is taken: the table has no rowid for a row,
-/// or the row has more than a billion bytes.
+/// or the row is too big.
 pub fn what_is_refused_has_no_place<S: Alter>(conn: &Connection<S>)
     ensures { (w : Write) (t u : Tables) (f : TheFault) → Makes w t u → HaveOwnTokens u
         → IsIdle (state S.Store conn.now) → Shows (state S.Store conn.now) t
         → Refuses S.Store (statements_of w) conn.now f → LacksPlaceFor S.Store w conn.now f }
 {}
 
-/// Of what is put into the tables only a revision can have more than a billion bytes, and what is
-/// taken out needs no place.
+/// Of what is put into the tables only a revision can be too big, and what is taken out needs no
+/// place.
 pub fn only_a_revision_is_too_big()
     ensures user { (u : UserRow) (db : Database) → IsUser u → LacksPlace (puts_user u) db Full → ⊥ }
     ensures vote { (v : VoteEntry) (db : Database) → IsVote v
