@@ -15,3 +15,4 @@ pub mod Unwritten
 pub mod Calls
 pub mod Endings
 pub mod Begun
+pub mod Said

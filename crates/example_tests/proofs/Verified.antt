@@ -1,5 +1,5 @@
 -- An office that was verified with the journal of its founding.
-use Rattle.std.proofs.Common.{◌≡◌, ◌∙◌, ◌≤◌, ℕ, pos, List, [], ◌∷◌, Option, Some, None, length, refl, sym, ap, subst, arith}
+use Rattle.std.proofs.Common.{◌≡◌, ◌∙◌, ◌≤◌, ◌<◌, ℕ, pos, List, [], ◌∷◌, Option, Some, None, length, refl, sym, ap, subst, arith}
 use Rattle.sqlite.specs.declared.types.Value.{Value}
 use Rattle.sqlite.specs.declared.types.Value.TheVariants.{Int}
 use Rattle.sqlite.specs.Held.{Held, state}
@@ -20,7 +20,9 @@ use Rattle.journal.proofs.JournalFacts.{one_history}
 use Rattle.journal_verification.specs.declared.verification.KeptSeal.{KeptSeal}
 use Rattle.journal_verification.specs.declared.verification.Verified.{Verified}
 use Rattle.journal_verification.specs.KeptSeals.{HaveSeal}
-use Rattle.journal_verification.specs.Verified.{IsVerified}
+use Rattle.journal_faults.specs.declared.difference.Difference.{Difference}
+use Rattle.journal_verification.specs.Different.{DifferAt}
+use Rattle.journal_verification.specs.Verified.{HasOtherSeal, IsAhead, IsOther, IsVerified}
 use Rattle.example_tests.specs.Examples.{founding}
 use Rattle.example_tests.specs.JournalExamples.{first_line, first_text, kept_seal, verified}
 use Rattle.example_tests.proofs.Founded.{is_lawful}
@@ -45,6 +47,17 @@ keeps_first = (omega arith, refl)
 
 keeps_told : HaveSeal (Some (kept_seal 1 first_line)) (told first_text)
 keeps_told = subst (HaveSeal (Some (kept_seal 1 first_line))) (sym told_first) keeps_first
+
+pub too_few : HasOtherSeal (Some first_text) (Some (kept_seal 2 first_line))
+too_few = record {
+  history = founding;
+  journal = first_journal;
+  lawful = is_lawful;
+  other = λ have. let few = have.0 in omega (arith, few, one_told);
+}
+
+pub never_other_seal : HasOtherSeal (Some first_text) (Some (kept_seal 1 first_line)) → ⊥
+never_other_seal has = has.other keeps_told
 
 -- ---- the office
 
@@ -74,6 +87,36 @@ module _ {S : Type 0} (g : Ghosts S) (office : Held S) where
   pub verified_with_kept : Shows (state g office) (tables_of founding) → Stands (meaning_over g) founding office → IsVerified (Some first_text) g (Some (kept_seal 1 first_line)) 0 office (verified 1 1)
   verified_with_kept = is_verified (Some (kept_seal 1 first_line)) 0 keeps_told (omega arith)
 
+  -- the tables of a history that has the journal list five capabilities
+  lists_five : (history : History) → IsJournalOf first_text history → Shows (state g office) (tables_of history) → (state g office).now.trees 0 ≡ office_row 6 ∷ [] → ⊥
+  lists_five history journal shows row =
+      let same = one_history first_text history founding journal first_journal in
+      let rows = sym row ∙ shows.office.office in
+      let listed : 6 ≡ (tables_of history).listed = ap listed_in rows in
+      let five : (tables_of history).listed ≡ 5 = ap (λ h. (tables_of h).listed) same in
+      omega (arith, listed, five)
+
+  pub is_ahead : Shows (state g office) (tables_of founding) → IsAhead (Some first_text) g 2 office
+  is_ahead shows = record {
+    history = founding;
+    journal = first_journal;
+    lawful = is_lawful;
+    shows = shows;
+    ahead = omega (arith, one_told);
+  }
+
+  pub never_ahead : IsAhead (Some first_text) g 1 office → ⊥
+  never_ahead is = let above : length (told first_text) < 1 = is.ahead in omega (arith, above, one_told)
+
+  pub never_other_ahead : (state g office).now.trees 0 ≡ office_row 6 ∷ [] → IsAhead (Some first_text) g 2 office → ⊥
+  never_other_ahead row is = lists_five is.history is.journal is.shows row
+
+  -- what differs differs from the tables of the founding
+  pub differs_from_founding : (d : Difference) → Shows (state g office) (tables_of founding) → IsOther (Some first_text) g g office d
+      → DifferAt (tables_of founding) (tables_of founding) d
+  differs_from_founding d shows is =
+      subst (λ h. DifferAt (tables_of h) (tables_of founding) d) (one_history first_text is.history founding is.journal first_journal) (is.differ (tables_of founding) shows)
+
   module _ (kept : Option KeptSeal) (mark : ℕ) (told_is : Verified) (is : IsVerified (Some first_text) g kept mark office told_is) where
     -- the history is the founding
     is_founding : is.history ≡ founding
@@ -87,11 +130,7 @@ module _ {S : Type 0} (g : Ghosts S) (office : Held S) where
 
     -- the tables are those of the founding
     pub never_listed : (state g office).now.trees 0 ≡ office_row 6 ∷ [] → ⊥
-    never_listed row =
-        let rows = sym row ∙ is.shows.office.office in
-        let listed : 6 ≡ (tables_of is.history).listed = ap listed_in rows in
-        let five : (tables_of is.history).listed ≡ 5 = ap (λ h. (tables_of h).listed) is_founding in
-        omega (arith, listed, five)
+    never_listed row = lists_five is.history is.journal.journal is.shows row
 
   -- no lawful history has an empty journal
   pub never_empty : (mark : ℕ) (told_is : Verified) → IsVerified (Some []) g None mark office told_is → ⊥

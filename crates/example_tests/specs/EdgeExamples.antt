@@ -1,6 +1,7 @@
 -- Small values by which definitions of the edges are tried: disks that count calls that failed, a
--- stream that is how much of it is still to come, clocks, files that are their bytes, and networks.
-use Rattle.std.specs.Prelude.{◌≡◌, ◌≢◌, ◌⊎◌, ◌-◌, ℕ, min, List, [], ◌∷◌, codes, Result, Ok, Err, ⊤}
+-- stream that is how much of it is still to come, clocks, files and writers that are their bytes, and
+-- networks.
+use Rattle.std.specs.Prelude.{◌≡◌, ◌≢◌, ◌⊎◌, ◌-◌, ℕ, min, List, [], ◌∷◌, codes, Option, Some, Result, Ok, Err, ⊤}
 use Rattle.std.specs.declared.io.Error.{Error}
 use Rattle.std.specs.declared.net.socket_addr.SocketAddr.{SocketAddr}
 use Rattle.std.specs.declared.net.socket_addr.SocketAddr.TheVariants.{V4}
@@ -8,6 +9,7 @@ use Rattle.std.specs.declared.net.tcp.TcpListener.{TcpListener}
 use Rattle.std.specs.declared.time.Duration.{Duration}
 use Rattle.sqlite_disk.specs.Disk.{MoreFaults}
 use Rattle.sqlite_disk.specs.declared.Disk.{Ghosts as DiskGhosts}
+use Rattle.streams.specs.declared.counted.Counted.{Counted}
 use Rattle.sealed_log.specs.declared.unreadable.Unreadable.{Unreadable}
 use Rattle.journal_faults.specs.declared.refused.Refused.{Refused}
 use Rattle.journal_faults.specs.declared.refused.Why.TheVariants.{Unread}
@@ -96,6 +98,15 @@ file_at path bytes asked (Err e) = asked ≢ path
 -- a journal isn't read on at its second line, for this
 abbrev pub unread : Unreadable → Refused
 unread fault = refused_at 2 (Unread fault)
+
+-- ---- a writer, which is what was written
+
+abbrev pub written : List ℕ → Option (List ℕ)
+written bytes = Some bytes
+
+-- it wrote this, and so many of its calls failed
+abbrev pub wrote : List ℕ → (faults : ℕ) → Counted (List ℕ)
+wrote bytes faults = record { inner = bytes; calls = 0; faults = faults }
 
 -- ---- a network, which has a number
 

@@ -17,6 +17,7 @@ pub mod openings;
 pub mod reads;
 pub mod replays;
 pub mod revisions;
+pub mod sayings;
 pub mod stores;
 pub mod strikes;
 pub mod verifications;
