@@ -1,5 +1,5 @@
 -- Statements for which a store has no memory, and writes that it refuses for nothing else.
-use Rattle.std.proofs.Common.{◌≡◌, ◌∙◌, ◌∷◌, inl, inr, ℕ, List, [], Bool, true, false, if◌then◌else◌, Err, refl, sym, ap}
+use Rattle.std.proofs.Common.{◌≡◌, ◌∙◌, ◌∷◌, inl, inr, ℕ, List, [], Bool, true, false, if◌then◌else◌, Err, refl, sym, ap, arith}
 use Rattle.sqlite.specs.declared.error.Error.{Error}
 use Rattle.sqlite.specs.declared.error.Error.TheVariants.{SqliteFailure}
 use Rattle.sqlite.specs.declared.error.ErrorCode.TheVariants as code
@@ -14,7 +14,7 @@ use Rattle.review_policy.specs.declared.fault.Fault.{Fault}
 use Rattle.review_policy.specs.declared.fault.Fault.TheVariants.{NoMemory, Disk, Full, NotAnOffice}
 use Rattle.office_tables.specs.Tables.{Tables, is_profile}
 use Rattle.office_rows.specs.Faults.{fault_of_error}
-use Rattle.office_rows.specs.Statements.{Statement, IsCause, begun}
+use Rattle.office_rows.specs.Statements.{Statement, FailedIn, IsCause, IsUndone, begun}
 use Rattle.office_store.specs.Refusing.{LacksPlace, LacksPlaceFor, Makes, RefusedForPlace, Write}
 use Rattle.office_store.specs.Refusing.{puts_user, adds_revision, issues, withdraws, puts_vote, puts_baseline, puts_hold, deletes_hold}
 use Rattle.office_store.specs.Writes.{releasing}
@@ -38,9 +38,29 @@ module _ {S : Type 0} (g : Ghosts S) (conn : Held S) (rest : IsAtRest g conn) wh
   unfolding ExecutesIn IsNotRun
   no_memory sql params = inl (inl (inr (stored.OutOfMemory, refl, tt, undone, λ kind is fault. absurd (let k : false ≡ true = fault in cc))), inr undone)
 
+  -- and stays as it is
+  still : IsUndone g conn conn
+  still = record {
+    undone = record {
+      was_open = λ is_open. is_open;
+      undone = λ is_open. (rest.settled, refl);
+      autocommit = rest.idle.autocommit;
+      unmarked = rest.unmarked;
+      counts = record { changes = refl; last_rowid = refl };
+    };
+    counts = omega arith;
+  }
+
   -- there is none for the first statement of a transaction
-  pub memory_lacks : (s : Statement) (ss : List Statement) → IsCause g (s ∷ ss) conn (NoMemory witness)
-  memory_lacks s ss = record { error = SqliteFailure code.OutOfMemory; failed = inl (conn, no_memory s.sql s.params); fault = refl }
+  pub memory_lacks : (s : Statement) (ss : List Statement) → IsCause g (s ∷ ss) conn conn (NoMemory witness)
+  memory_lacks s ss = record { error = SqliteFailure code.OutOfMemory; failed = inl (conn, no_memory s.sql s.params, still); fault = refl }
+
+-- a transaction that failed is over
+pub over_when_failed : {S : Type 0} (g : Ghosts S) (ss : List Statement) (h end : Held S) (e : Error) → FailedIn g ss h end e → (state g end).in_transaction ≡ false
+over_when_failed g [] h end e (inl failed) = failed.3.autocommit
+over_when_failed g [] h end e (inr late) = late.2.0.mode ∙ late.1
+over_when_failed g (s ∷ ss) h end e (inl failed) = failed.2.undone.autocommit
+over_when_failed g (s ∷ ss) h end e (inr later) = over_when_failed g ss later.0 end e later.3
 
 -- ---- a row is taken out
 

@@ -204,13 +204,13 @@ module _ {S : Type 0} (g : Ghosts S) (before old new : Held S) (allowed : Allowe
     unwritten_cause h office clean is_open =
         elim (asks.cause clean).met [
           | inl met ↦ inl (met_between (state g before) (state g old) (state g new) (state g new) fault leaves.survives.counts (omega arith) (never_both (state g old).is_open is_open) met)
-          | inr refused ↦ inr (stopped fault (λ t u makes own idle shows. stops_for g w old t u fault makes own idle shows (asks.cause clean).cause refused) h office clean is_open)
+          | inr refused ↦ inr (stopped fault (λ t u makes own idle shows. stops_for g w old new t u fault makes own idle shows (asks.cause clean).cause refused) h office clean is_open)
         ]
 
     -- or has no memory for it
     pub unwritten_memory : (h : History) → IsOffice h (state g before) → HasCleanDisk (state g new) → IsTrue (state g old).is_open → fault ≡ NoMemory witness
         → RefusesEvent (meaning_over g) before h (judge h) (NoMemory witness)
-    unwritten_memory h office clean is_open is = stopped (NoMemory witness) (λ t u makes own idle shows. subst (IsCause g (statements_of w) old) is (asks.cause clean).cause) h office clean is_open
+    unwritten_memory h office clean is_open is = stopped (NoMemory witness) (λ t u makes own idle shows. (new, subst (IsCause g (statements_of w) old new) is (asks.cause clean).cause)) h office clean is_open
 
     pub unwritten_office : (h : History) → IsOffice h (state g before) → IsOffice h (state g new)
     unwritten_office h office = record {

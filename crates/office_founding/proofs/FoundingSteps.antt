@@ -162,10 +162,10 @@ module _ {S : Type 0} (g : Ghosts S) where
       (goes (user_step u listed formed) ends)))))))))
 
   -- what failed, of parameters that are these
-  pub failed_given : (u : UserRow) (listed : ℕ) (h : Held S) (none office user : Row) (e : Error) → FailedIn g (founding none office user) h e → none ≡ [] → office ≡ Int (pos listed) ∷ [] → user ≡ user_row u
-      → FailedIn g (founding_office u listed) h e
-  failed_given u listed h none office user e failed is_none is_office is_user =
-      subst (λ (r : Row × Row × Row). FailedIn g (founding r.0 r.1 r.2) h e) (λ i. (is_none i, is_office i, is_user i)) failed
+  pub failed_given : (u : UserRow) (listed : ℕ) (h end : Held S) (none office user : Row) (e : Error) → FailedIn g (founding none office user) h end e → none ≡ [] → office ≡ Int (pos listed) ∷ [] → user ≡ user_row u
+      → FailedIn g (founding_office u listed) h end e
+  failed_given u listed h end none office user e failed is_none is_office is_user =
+      subst (λ (r : Row × Row × Row). FailedIn g (founding r.0 r.1 r.2) h end e) (λ i. (is_none i, is_office i, is_user i)) failed
 
   -- and what was refused
   pub refused_given : (u : UserRow) (listed : ℕ) (h : Held S) (none office user : Row) (e : Error) → RefusedIn g (founding none office user) h e → none ≡ [] → office ≡ Int (pos listed) ∷ [] → user ≡ user_row u
@@ -183,5 +183,5 @@ module _ {S : Type 0} (g : Ghosts S) where
         → IsOffice db (founded_tables u listed)
     all_founded none office user db ran is_none is_office is_user = all_led g (given none office user is_none is_office is_user) (begun h) db (record { schema_is = empty; empty = tt }) ran
 
-    pub none_founded : (none office user : Row) (e : Error) → FailedIn g (founding none office user) (begun h) e → none ≡ [] → office ≡ Int (pos listed) ∷ [] → user ≡ user_row u → IsOfMachine e
-    none_founded none office user e failed is_none is_office is_user = none_led g (given none office user is_none is_office is_user) (begun h) e (record { schema_is = empty; empty = tt }) failed
+    pub none_founded : (end : Held S) (none office user : Row) (e : Error) → FailedIn g (founding none office user) (begun h) end e → none ≡ [] → office ≡ Int (pos listed) ∷ [] → user ≡ user_row u → IsOfMachine e
+    none_founded end none office user e failed is_none is_office is_user = none_led g (given none office user is_none is_office is_user) (begun h) end e (record { schema_is = empty; empty = tt }) failed

@@ -114,10 +114,10 @@ module _ {S : Type 0} (g : Ghosts S) (old new : Held S) (idle : IsIdle (state g 
         (λ t shows clean is_open. let was = shows (was_open clean is_open) in old_again (state g old) (state g new) t was (same was.settled clean) is_open) same
 
 -- the statements never fail for the form of an office of schema 1
-pub never_unformed : {S : Type 0} (g : Ghosts S) (h : Held S) (e : Error) (f : Fault) (t : Tables) → ShowsOldIfOpen (state g h) t → FailedIn g (migration []) (begun h) e → f ≡ fault_of_error e → f ≢ NotAnOffice
-never_unformed g h e f t shows failed is same =
-    by_open (state g h).is_open ⊥ (λ is_open. (none_migrated g t (begun h) e (shows is_open).office failed).0 (sym is ∙ same))
-    (λ shut. failed_shut g (migration []) (begun h) e (omega arith) failed shut (sym is ∙ same))
+pub never_unformed : {S : Type 0} (g : Ghosts S) (h end : Held S) (e : Error) (f : Fault) (t : Tables) → ShowsOldIfOpen (state g h) t → FailedIn g (migration []) (begun h) end e → f ≡ fault_of_error e → f ≢ NotAnOffice
+never_unformed g h end e f t shows failed is same =
+    by_open (state g h).is_open ⊥ (λ is_open. (none_migrated g t (begun h) end e (shows is_open).office failed).0 (sym is ∙ same))
+    (λ shut. failed_shut g (migration []) (begun h) end e (omega arith) failed shut (sym is ∙ same))
 
 -- ---- the row and then the statements
 

@@ -204,5 +204,5 @@ module _ {S : Type 0} (g : Ghosts S) (t : Tables) where
   pub all_migrated : (h : Held S) (db : Database) → IsOldOffice (state g h).now t → RanAll g (migration []) h db → IsOffice db t
   all_migrated h db old ran = all_led g migrates h db old ran
 
-  pub none_migrated : (h : Held S) (e : Error) → IsOldOffice (state g h).now t → FailedIn g (migration []) h e → IsOfMachine e
-  none_migrated h e old failed = none_led g migrates h e old failed
+  pub none_migrated : (h end : Held S) (e : Error) → IsOldOffice (state g h).now t → FailedIn g (migration []) h end e → IsOfMachine e
+  none_migrated h end e old failed = none_led g migrates h end e old failed

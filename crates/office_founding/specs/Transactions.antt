@@ -24,10 +24,10 @@ module _ {S : Type 0} (g : Ghosts S) where
       → OnErr result ((state g new).now ≡ (state g old).committed
       × (state g new).committed ≡ (state g old).committed)
 
-  -- an error is that of a statement, or of the commit
+  -- an error is that of a statement between the two, or of the commit
   abbrev pub FailsWithin : (old new : Held S) → List Statement → Result (Unit {0}) Error → Type 0
   FailsWithin old new statements result =
-      HasCleanDisk (state g new) → IfErr result (FailedIn g statements (begun old))
+      HasCleanDisk (state g new) → IfErr result (FailedIn g statements (begun old) new)
 
   -- a transaction fails for no memory, for the disk, over a connection that was shut, or since
   -- SQLite refuses a statement

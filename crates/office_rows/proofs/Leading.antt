@@ -24,8 +24,8 @@ module _ {S : Type 0} (g : Ghosts S) where
   all_led (ends {First = First}) h db first ran = subst First (sym ran) first
   all_led (goes makes leads) h db first ran = all_led leads ran.0 db (makes.ok h ran.0 ran.1 first ran.2.0) ran.3
 
-  pub none_led : {ss : List Statement} {First Last : Database → Type 0} → Leads ss First Last → (h : Held S) (e : Error) → First (state g h).now → FailedIn g ss h e → IsOfMachine e
-  none_led ends h e first (new, inl failed) = rw failed.1 (of_store failed.0)
-  none_led ends h e first (new, inr late) = rw late.0 (λ h. cc, λ h. cc)
-  none_led (goes makes leads) h e first (inl failed) = makes.err h failed.0 e first failed.1
-  none_led (goes makes leads) h e first (inr later) = none_led leads later.0 e (makes.ok h later.0 later.1 first later.2.0) later.3
+  pub none_led : {ss : List Statement} {First Last : Database → Type 0} → Leads ss First Last → (h end : Held S) (e : Error) → First (state g h).now → FailedIn g ss h end e → IsOfMachine e
+  none_led ends h end e first (inl failed) = rw failed.1 (of_store failed.0)
+  none_led ends h end e first (inr late) = rw late.0 (λ h. cc, λ h. cc)
+  none_led (goes makes leads) h end e first (inl failed) = makes.err h failed.0 e first failed.1
+  none_led (goes makes leads) h end e first (inr later) = none_led leads later.0 end e (makes.ok h later.0 later.1 first later.2.0) later.3

@@ -32,7 +32,7 @@ statement_shut sql params old new e shut (inl (inr (c, it, h), kept)) = by (show
     by true full h = never_both old.is_open h.1.0.was_open shut
     by false full h = command_shut old new sql c full e shut h
 
-pub failed_shut : {S : Type 0} (g : Ghosts S) (ss : List Statement) (h : Held S) (e : Error) → 0 < length ss → FailedIn g ss h e → (state g h).is_open ≡ false → fault_of_error e ≢ NotAnOffice
-failed_shut g [] h e some failed shut = absurd (omega arith)
-failed_shut g (s ∷ ss) h e some (inl failed) shut = statement_shut s.sql s.params (state g h) (state g failed.0) e shut failed.1
-failed_shut g (s ∷ ss) h e some (inr later) shut = never_both (state g h).is_open later.2.1.was_open shut
+pub failed_shut : {S : Type 0} (g : Ghosts S) (ss : List Statement) (h end : Held S) (e : Error) → 0 < length ss → FailedIn g ss h end e → (state g h).is_open ≡ false → fault_of_error e ≢ NotAnOffice
+failed_shut g [] h end e some failed shut = absurd (omega arith)
+failed_shut g (s ∷ ss) h end e some (inl failed) shut = statement_shut s.sql s.params (state g h) (state g failed.0) e shut failed.1
+failed_shut g (s ∷ ss) h end e some (inr later) shut = never_both (state g h).is_open later.2.1.was_open shut

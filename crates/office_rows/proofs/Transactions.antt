@@ -19,7 +19,7 @@ pub record IsUnderWay {S : Type 0} (g : Ghosts S) (all left : List Statement) (o
   pub was_open : HasCleanDisk (state g now) → IsTrue (state g now).is_open → IsTrue (state g old).is_open
   pub committed : HasCleanDisk (state g now) → IsTrue (state g now).is_open → (state g now).committed ≡ (state g old).committed
   pub ran : HasCleanDisk (state g now) → (db : Database) → RanAll g left now db → RanAll g all (begun old) db
-  pub failed : HasCleanDisk (state g now) → (e : Error) → FailedIn g left now e → FailedIn g all (begun old) e
+  pub failed : HasCleanDisk (state g now) → (end : Held S) (e : Error) → FailedIn g left now end e → FailedIn g all (begun old) end e
   pub refused : HasCleanDisk (state g now) → (e : Error) → RefusedIn g left now e → RefusedIn g all (begun old) e
   pub stays : HasCleanDisk (state g now) → IsTrue (state g old).is_open → IsTrue (state g now).is_open
 
@@ -36,7 +36,7 @@ one_more g all left s old now next count it step runs =
       was_open = λ clean is_open. it.was_open (before clean) (done clean).1.was_open;
       committed = λ clean is_open. (done clean).1.committed_is ∙ it.committed (before clean) (done clean).1.was_open;
       ran = λ clean db rest. it.ran (before clean) db (next, count, done clean, rest);
-      failed = λ clean e rest. it.failed (before clean) e (inr (next, count, done clean, rest));
+      failed = λ clean end e rest. it.failed (before clean) end e (inr (next, count, done clean, rest));
       refused = λ clean e rest. it.refused (before clean) e (inr (next, count, done clean, step.limit, rest));
       stays = λ clean was. (done clean).1.is_open;
     }

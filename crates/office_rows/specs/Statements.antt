@@ -1,12 +1,12 @@
 -- Several statements in one transaction.
-use Rattle.std.specs.Prelude.{◌≡◌, ◌⊎◌, ℕ, true, List, [], ◌∷◌, Ok, Err}
+use Rattle.std.specs.Prelude.{◌≡◌, ◌⊎◌, ◌≤◌, ℕ, true, List, [], ◌∷◌, Ok, Err}
 use Rattle.sqlite.specs.declared.error.Error.{Error}
 use Rattle.sqlite.specs.declared.error.Error.TheVariants.{SqliteFailure}
 use Rattle.sqlite.specs.declared.error.ErrorCode.TheVariants.{TooBig}
 use Rattle.sqlite.specs.Store.{Ghosts}
 use Rattle.sqlite.specs.Order.{Row}
 use Rattle.sqlite.specs.Effect.{Database}
-use Rattle.sqlite.specs.State.{ExecutesInside, IsUnchanged}
+use Rattle.sqlite.specs.State.{ExecutesInside, IsRolledBack, IsUnchanged}
 use Rattle.sqlite.specs.Steps.{FailsToCommit}
 use Rattle.sqlite.specs.Held.{Held, state}
 use Rattle.sqlite.specs.Values.{bound}
@@ -34,18 +34,27 @@ module _ {S : Type 0} (g : Ghosts S) where
       (mid : Held S) × (count : ℕ)
       × ExecutesInside 0 s.sql s.params (state g h) (state g mid) (Ok count) × RanAll ss mid db
 
-  -- from this connection on, one of the statements failed, or the commit after them
-  abbrev pub FailedIn : List Statement → Held S → Error → Type 0
-  FailedIn [] h e = (new : Held S) × FailsToCommit (state g h) (state g new) e
-  FailedIn (s ∷ ss) h e =
-      ((new : Held S) × ExecutesInside 0 s.sql s.params (state g h) (state g new) (Err e))
-      ⊎ ((mid : Held S) × (count : ℕ)
-      × ExecutesInside 0 s.sql s.params (state g h) (state g mid) (Ok count) × FailedIn ss mid e)
+  -- a transaction that had come to the first was rolled back, which left the second
+  pub record IsUndone (mid end : Held S) : Type 0 where
+    pub undone : IsRolledBack (state g mid) (state g end)
+    -- no fault was forgotten
+    pub counts : (state g mid).faults ≤ (state g end).faults
 
-  -- a fault is that of a statement of a transaction, or of its commit
-  pub record IsCause (statements : List Statement) (h : Held S) (f : Fault) : Type 0 where
+  -- from this connection on, one of the statements failed and all was undone, or the commit after
+  -- them failed. That left the second
+  abbrev pub FailedIn : List Statement → (h end : Held S) → Error → Type 0
+  FailedIn [] h end e = FailsToCommit (state g h) (state g end) e
+  FailedIn (s ∷ ss) h end e =
+      ((mid : Held S) × ExecutesInside 0 s.sql s.params (state g h) (state g mid) (Err e)
+      × IsUndone mid end)
+      ⊎ ((mid : Held S) × (count : ℕ)
+      × ExecutesInside 0 s.sql s.params (state g h) (state g mid) (Ok count)
+      × FailedIn ss mid end e)
+
+  -- a fault is that of a statement of a transaction between the two, or of its commit
+  pub record IsCause (statements : List Statement) (old new : Held S) (f : Fault) : Type 0 where
     pub error : Error
-    pub failed : FailedIn statements (begun h) error
+    pub failed : FailedIn statements (begun old) new error
     pub fault : f ≡ fault_of_error error
 
   -- SQLite refuses this statement for what is there, which it leaves, or for a row that is too big
@@ -77,5 +86,5 @@ module _ {S : Type 0} (g : Ghosts S) where
 
   -- a transaction met this fault, of one of these causes
   pub record HasMet (statements : List Statement) (old new : Held S) (f : Fault) : Type 0 where
-    pub cause : IsCause statements old f
+    pub cause : IsCause statements old new f
     pub met : HasFailed (state g old) (state g new) f ⊎ Refuses statements old f

@@ -31,8 +31,8 @@ pub fn run_all<S: Alter>(
     ensures none { HasCleanDisk (state S.Store conn.new) → IsTrue (state S.Store conn.new).is_open
         → OnErr result ((state S.Store conn.new).now ≡ (state S.Store conn.old).committed
         × (state S.Store conn.new).committed ≡ (state S.Store conn.old).committed) }
-    ensures cause { HasCleanDisk (state S.Store conn.new)
-        → IfErr result (FailedIn S.Store (map statement_of statements.now) (begun conn.old)) }
+    ensures cause { HasCleanDisk (state S.Store conn.new) → IfErr result
+        (FailedIn S.Store (map statement_of statements.now) (begun conn.old) conn.new) }
     ensures met { HasCleanDisk (state S.Store conn.new)
         → IfErr result (FailsFor S.Store (map statement_of statements.now) conn.old conn.new) }
     ensures was_open { HasCleanDisk (state S.Store conn.new)

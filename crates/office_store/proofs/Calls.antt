@@ -273,7 +273,7 @@ module _ {S : Type 0} (g : Ghosts S) (ss : List Statement) (some : 0 < length ss
 
   pub write_refused : (A : Type 0) (e : Error) (f : Fault) → f ≡ fault_of_error e
       → (HasCleanDisk (state g new) → IsTrue (state g new).is_open → ((state g new).now ≡ (state g old).committed) × ((state g new).committed ≡ (state g old).committed))
-      → (HasCleanDisk (state g new) → FailedIn g ss (begun old) e) → IsWrite {A = A} (state g old) (state g new) (Err f) (AreSteps g ss)
+      → (HasCleanDisk (state g new) → FailedIn g ss (begun old) new e) → IsWrite {A = A} (state g old) (state g new) (Err f) (AreSteps g ss)
   write_refused A e f is none cause = record {
     leaves = leaves_of {A = A} (Err f) (λ clean. tt) other;
     done = λ t u shows steps clean. tt;
@@ -283,11 +283,11 @@ module _ {S : Type 0} (g : Ghosts S) (ss : List Statement) (some : 0 < length ss
         record { is_open = is_open; settled = back.0 ∙ sym back.1; office = subst (λ (d : Database). IsOffice d t) (was.settled ∙ sym back.0) was.office };
     same = λ settled clean is_open. let back = none clean is_open in (back.0 ∙ sym settled, back.1);
     formed = λ t u shows steps clean same.
-        by_open (state g old).is_open ⊥ (λ is_open. (none_made g ss (begun old) e t u (shows is_open).office steps (cause clean)).0 (sym is ∙ (let k : f ≡ NotAnOffice = cc in k)))
+        by_open (state g old).is_open ⊥ (λ is_open. (none_made g ss (begun old) new e t u (shows is_open).office steps (cause clean)).0 (sym is ∙ (let k : f ≡ NotAnOffice = cc in k)))
         (λ shut. other clean shut same);
     crash = crash_of;
     lost = lost_of;
   }
     where
       other : HasCleanDisk (state g new) → (state g old).is_open ≡ false → ◌≢◌ {A = Result A Fault} (Err f) (Err NotAnOffice)
-      other clean shut same = failed_shut g ss (begun old) e some (cause clean) shut (sym is ∙ (let k : f ≡ NotAnOffice = cc in k))
+      other clean shut same = failed_shut g ss (begun old) new e some (cause clean) shut (sym is ∙ (let k : f ≡ NotAnOffice = cc in k))

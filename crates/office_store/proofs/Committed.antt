@@ -18,11 +18,11 @@ module _ {S : Type 0} (g : Ghosts S) where
   all_made [] h db t u office same ran = subst (λ v. IsOffice db v) same (subst (λ d. IsOffice d t) (sym ran) office)
   all_made (s ∷ ss) h db t u office steps ran = all_made ss ran.0 db steps.0 u (steps.1.ok h ran.0 ran.1 office ran.2.0) steps.2 ran.3
 
-  pub none_made : (ss : List Statement) (h : Held S) (e : Error) (t u : Tables) → IsOffice (state g h).now t → AreSteps g ss t u → FailedIn g ss h e → IsOfMachine e
-  none_made [] h e t u office same (new, inl failed) = rw failed.1 (of_store failed.0)
-  none_made [] h e t u office same (new, inr late) = rw late.0 (λ h. cc, λ h. cc)
-  none_made (s ∷ ss) h e t u office steps (inl failed) = steps.1.err h failed.0 e office failed.1
-  none_made (s ∷ ss) h e t u office steps (inr later) = none_made ss later.0 e steps.0 u (steps.1.ok h later.0 later.1 office later.2.0) steps.2 later.3
+  pub none_made : (ss : List Statement) (h end : Held S) (e : Error) (t u : Tables) → IsOffice (state g h).now t → AreSteps g ss t u → FailedIn g ss h end e → IsOfMachine e
+  none_made [] h end e t u office same (inl failed) = rw failed.1 (of_store failed.0)
+  none_made [] h end e t u office same (inr late) = rw late.0 (λ h. cc, λ h. cc)
+  none_made (s ∷ ss) h end e t u office steps (inl failed) = steps.1.err h failed.0 e office failed.1
+  none_made (s ∷ ss) h end e t u office steps (inr later) = none_made ss later.0 end e steps.0 u (steps.1.ok h later.0 later.1 office later.2.0) steps.2 later.3
 
 -- the trees of an office are those of its tables
 pub trees_of : (db : Database) (trees : Trees) (t : Tables) → IsOffice db t → trees ≡ db.trees → AreOffice trees t

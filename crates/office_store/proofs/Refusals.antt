@@ -520,10 +520,10 @@ module _ {S : Type 0} (g : Ghosts S) (w : Write) where
   never_unformed (s ∷ ss) h e is (inr (mid, count, ran, rest)) = never_unformed ss mid e is rest
 
   -- what kept a write from being committed, where it was no fault of the store
-  pub stops_for : (h : Held S) (t u : Tables) (f : Fault) → Makes w t u → HaveOwnTokens u → IsIdle (state g h) → Shows (state g h) t → IsCause g (statements_of w) h f → Refuses g (statements_of w) h f
+  pub stops_for : (h end : Held S) (t u : Tables) (f : Fault) → Makes w t u → HaveOwnTokens u → IsIdle (state g h) → Shows (state g h) t → IsCause g (statements_of w) h end f → Refuses g (statements_of w) h f
       → Stops g w h f
-  stops_for h t u (NoMemory _) makes own idle shows cause refused = cause
-  stops_for h t u Disk makes own idle shows cause refused = refused_place g h w t u Disk makes own idle shows refused
-  stops_for h t u Full makes own idle shows cause refused = refused_place g h w t u Full makes own idle shows refused
-  stops_for h t u NotAnOffice makes own idle shows cause refused =
+  stops_for h end t u (NoMemory _) makes own idle shows cause refused = (end, cause)
+  stops_for h end t u Disk makes own idle shows cause refused = refused_place g h w t u Disk makes own idle shows refused
+  stops_for h end t u Full makes own idle shows cause refused = refused_place g h w t u Full makes own idle shows refused
+  stops_for h end t u NotAnOffice makes own idle shows cause refused =
       let lacks = refused_place g h w t u NotAnOffice makes own idle shows refused in never_unformed (statements_of w) (begun h) lacks.error lacks.fault lacks.refused

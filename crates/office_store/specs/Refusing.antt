@@ -115,7 +115,8 @@ module _ {S : Type 0} (g : Ghosts S) (w : Write) where
   -- a write is stopped by this fault: a row has no place, or a statement or the commit has no
   -- memory
   abbrev pub Stops : Held S → Fault → Type 0
-  Stops h (NoMemory refused) = IsCause g (statements_of w) h (NoMemory refused)
+  Stops h (NoMemory refused) =
+      (end : Held S) × IsCause g (statements_of w) h end (NoMemory refused)
   Stops h Disk = LacksPlaceFor h Disk
   Stops h Full = LacksPlaceFor h Full
   Stops h NotAnOffice = ⊥

@@ -100,6 +100,10 @@ pub fn examples_of_failures_to_found<S: Alter>()
     ensures met { (old new : Held S) (f : Fault) → (state S.Store old).now.schema ≡ no_schema
         → FailsToFound S.Store first_row 5 old new (founding.Store f)
         → HasMet S.Store (founding_office first_row 5) old new f }
+    ensures another_end { (old new : Held S) (f : Fault)
+        → (state S.Store old).now.schema ≡ no_schema
+        → (state S.Store new).in_transaction ≡ true
+        → FailsToFound S.Store first_row 5 old new (founding.Store f) → ⊥ }
 {}
 
 /// A store without the five tables isn't migrated since it is no office; the statements of a

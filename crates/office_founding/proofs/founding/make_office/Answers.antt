@@ -35,7 +35,7 @@ pub returns-in-Err-clause-formed : goal.returns-in-Err-clause-formed
 returns-in-Err-clause-formed g c clean same =
     let it = c.in-Err.ensures.cause clean in
     let k : c.fault_of_error.result ≡ NotAnOffice = cc in
-    (none_founded g.S.Store (record { name = c.args.name.now; team = c.args.team.now; roles = 1; digest = c.args.digest.now }) c.args.listed c.bits_of-bits.ensures.small (record { name = c.as_str-name.ensures.formed; team = c.as_str-team.ensures.formed; roles = omega arith; digest = c.bytes_of-digest.ensures.long }) c.args.conn.now c.requires.empty _ _ _ c.in-Err.error it (search rules) (let fits : SFits w64 c.bits_of-bits.result = search rules in ap (λ (v : Value). bound_value v ∷ []) (c.params-to_sql.ensures ∙ ap Int (to_z-of_z w64 c.bits_of-bits.result fits ∙ c.bits_of-bits.ensures.value))) (rw (c.params-to_sql-2.ensures, c.params-to_sql-3.ensures, c.params-to_sql-4.ensures, c.params-to_sql-5.ensures, c.as_str-name.ensures.text, c.as_str-team.ensures.text, c.bytes_of-digest.ensures.same))).0 (sym c.fault_of_error.ensures ∙ k)
+    (none_founded g.S.Store (record { name = c.args.name.now; team = c.args.team.now; roles = 1; digest = c.args.digest.now }) c.args.listed c.bits_of-bits.ensures.small (record { name = c.as_str-name.ensures.formed; team = c.as_str-team.ensures.formed; roles = omega arith; digest = c.bytes_of-digest.ensures.long }) c.args.conn.now c.requires.empty c.run_founding.new.conn _ _ _ c.in-Err.error it (search rules) (let fits : SFits w64 c.bits_of-bits.result = search rules in ap (λ (v : Value). bound_value v ∷ []) (c.params-to_sql.ensures ∙ ap Int (to_z-of_z w64 c.bits_of-bits.result fits ∙ c.bits_of-bits.ensures.value))) (rw (c.params-to_sql-2.ensures, c.params-to_sql-3.ensures, c.params-to_sql-4.ensures, c.params-to_sql-5.ensures, c.as_str-name.ensures.text, c.as_str-team.ensures.text, c.bytes_of-digest.ensures.same))).0 (sym c.fault_of_error.ensures ∙ k)
 
 pub returns-in-Err-clause-cause : goal.returns-in-Err-clause-cause
 returns-in-Err-clause-cause g c clean =
@@ -46,7 +46,7 @@ returns-in-Err-clause-cause g c clean =
     record {
       cause = record {
         error = c.in-Err.error;
-        failed = failed_given g.S.Store user c.args.listed (begun old) _ _ _ c.in-Err.error (c.in-Err.ensures.cause clean) (search rules) (let fits : SFits w64 c.bits_of-bits.result = search rules in ap (λ (v : Value). bound_value v ∷ []) (c.params-to_sql.ensures ∙ ap Int (to_z-of_z w64 c.bits_of-bits.result fits ∙ c.bits_of-bits.ensures.value))) (rw (c.params-to_sql-2.ensures, c.params-to_sql-3.ensures, c.params-to_sql-4.ensures, c.params-to_sql-5.ensures, c.as_str-name.ensures.text, c.as_str-team.ensures.text, c.bytes_of-digest.ensures.same));
+        failed = failed_given g.S.Store user c.args.listed (begun old) new _ _ _ c.in-Err.error (c.in-Err.ensures.cause clean) (search rules) (let fits : SFits w64 c.bits_of-bits.result = search rules in ap (λ (v : Value). bound_value v ∷ []) (c.params-to_sql.ensures ∙ ap Int (to_z-of_z w64 c.bits_of-bits.result fits ∙ c.bits_of-bits.ensures.value))) (rw (c.params-to_sql-2.ensures, c.params-to_sql-3.ensures, c.params-to_sql-4.ensures, c.params-to_sql-5.ensures, c.as_str-name.ensures.text, c.as_str-team.ensures.text, c.bytes_of-digest.ensures.same));
         fault = fault;
       };
       met = elim (c.in-Err.ensures.met clean) [

@@ -17,7 +17,7 @@ returns-in-Err-clause-migration g c =
 
 pub returns-in-Err-clause-formed : goal.returns-in-Err-clause-formed
 returns-in-Err-clause-formed g c t shows clean same =
-    never_unformed g.S.Store c.args.conn.now c.in-Err.error c.fault_of_error.result t shows (c.in-Err.ensures.cause clean) c.fault_of_error.ensures (let k : c.fault_of_error.result ≡ NotAnOffice = cc in k)
+    never_unformed g.S.Store c.args.conn.now c.run_migration.new.conn c.in-Err.error c.fault_of_error.result t shows (c.in-Err.ensures.cause clean) c.fault_of_error.ensures (let k : c.fault_of_error.result ≡ NotAnOffice = cc in k)
 
 pub returns-in-Err-clause-cause : goal.returns-in-Err-clause-cause
 returns-in-Err-clause-cause g c clean =

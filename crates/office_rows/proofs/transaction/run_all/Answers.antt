@@ -2,7 +2,7 @@ use Rattle.std.proofs.Common.{rules, ◌≡◌, Err, map, sym, subst, arith, ◌
 use Rattle.sqlite.specs.Effect.{Database}
 use Rattle.sqlite.specs.Held.{state}
 use Rattle.sqlite.specs.State.{HasCleanDisk, Survives}
-use Rattle.office_rows.specs.Statements.{statement_of, begun, RanAll, FailedIn, RefusedIn}
+use Rattle.office_rows.specs.Statements.{statement_of, begun, RanAll, IsUndone, FailedIn, RefusedIn}
 use Rattle.office_rows.proofs.Transactions.{IsUnderWay, one_more, first_left, none_left, committed_all}
 use Rattle.office_rows.specs.Causes.{HasFailed}
 use Rattle.office_rows.specs.Faults.{fault_of_error}
@@ -28,9 +28,13 @@ returns-in_err-execute-clause-cause g c clean =
     let late : HasCleanDisk (state g.S.Store c.execute.new.self.conn.now) = omega (arith, c.drop-tx.ensures.survives.clean) in
     let before : HasCleanDisk (state g.S.Store c.loop-statement.tx.conn.now) = omega (arith, c.execute.ensures.survives.clean) in
     let is : c.from_residual.result ≡ Err c.in_err-execute.field-0.0 = search rules in
+    let same : c.drop-tx.new.self.0 ≡ c.conn-1.given.0 = search rules in
+    let undone : IsUndone g.S.Store c.execute.new.self.conn.now c.drop-tx.new.self.0 = record { undone = c.drop-tx.ensures.undone end; counts = c.drop-tx.ensures.survives.counts } in
     rw is
-    (it.failed before c.in_err-execute.field-0.0
-    (subst (λ l. FailedIn g.S.Store l c.loop-statement.tx.conn.now c.in_err-execute.field-0.0) (sym left) (inl (c.execute.new.self.conn.now, c.in_err-execute.ensures.runs late (it.mode before)))))
+    (subst (λ h. FailedIn g.S.Store (map statement_of c.args.statements.now) (begun c.args.conn.now) h c.in_err-execute.field-0.0) same
+    (it.failed before c.drop-tx.new.self.0 c.in_err-execute.field-0.0
+    (subst (λ l. FailedIn g.S.Store l c.loop-statement.tx.conn.now c.drop-tx.new.self.0 c.in_err-execute.field-0.0) (sym left)
+    (inl (c.execute.new.self.conn.now, c.in_err-execute.ensures.runs late (it.mode before), undone)))))
 
 pub returns-in_err-commit-clause-cause : goal.returns-in_err-commit-clause-cause
 returns-in_err-commit-clause-cause g c clean =
@@ -40,8 +44,11 @@ returns-in_err-commit-clause-cause g c clean =
     let end : HasCleanDisk (state g.S.Store c.commit.new.self.0) = search rules in
     let before : HasCleanDisk (state g.S.Store c.loop-statement.tx.conn.now) = omega (arith, c.commit.ensures.survives.clean) in
     let is : c.from_residual-in_err-commit.result ≡ Err c.in_err-commit.field-0.0 = search rules in
+    let same : c.commit.new.self.0 ≡ c.conn-2-1.given.0 = search rules in
     rw is
-    (it.failed before c.in_err-commit.field-0.0 (subst (λ l. FailedIn g.S.Store l c.loop-statement.tx.conn.now c.in_err-commit.field-0.0) (sym left) (c.commit.new.self.0, c.in_err-commit.ensures.err end)))
+    (subst (λ h. FailedIn g.S.Store (map statement_of c.args.statements.now) (begun c.args.conn.now) h c.in_err-commit.field-0.0) same
+    (it.failed before c.commit.new.self.0 c.in_err-commit.field-0.0
+    (subst (λ l. FailedIn g.S.Store l c.loop-statement.tx.conn.now c.commit.new.self.0 c.in_err-commit.field-0.0) (sym left) (c.in_err-commit.ensures.err end))))
 
 pub returns-in_err-execute-clause-met : goal.returns-in_err-execute-clause-met
 returns-in_err-execute-clause-met g c clean =

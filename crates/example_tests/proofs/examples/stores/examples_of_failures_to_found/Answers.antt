@@ -3,13 +3,14 @@ use Rattle.sqlite.specs.declared.types.Value.TheVariants.{Int}
 use Rattle.sqlite.specs.Schema.{Schema}
 use Rattle.sqlite_schema.specs.Names.{same_name}
 use Rattle.review_policy.specs.Words.{is_word}
+use Rattle.office_rows.specs.Statements.{begun}
 use Rattle.office_store.specs.Entries.{IsUser, user_row}
 use Rattle.office_store.specs.Schema.{no_schema, office_schema}
 use Rattle.office_founding.specs.Examples.{alone, notes_table}
-use Rattle.office_founding.specs.Founding.{has_table}
+use Rattle.office_founding.specs.Founding.{founding_office, has_table}
 use Rattle.office_founding.proofs.FoundingSteps.{none_founded}
 use Rattle.example_tests.specs.Examples.{first_row}
-use Rattle.example_tests.proofs.Failing.{memory_lacks}
+use Rattle.example_tests.proofs.Failing.{memory_lacks, over_when_failed}
 use Rattle.example_tests.proofs.examples.stores.examples_of_failures_to_found.Goals as goal
 
 office_has_table : has_table office_schema ≡ true
@@ -46,7 +47,7 @@ returns-clause-not_already g c = λ old new is already. let k : false ≡ true =
 pub returns-clause-nothing_else : goal.returns-clause-nothing_else
 returns-clause-nothing_else g c = λ old new is fails. elim fails [
   | inl other ↦ other.0.1 is
-  | inr it ↦ (none_founded g.S.Store first_row 5 (lit< tt) is_user old is [] (Int (pos 5) ∷ []) (user_row first_row) it.1.cause.error it.1.cause.failed refl refl refl).0 (sym it.1.cause.fault)
+  | inr it ↦ (none_founded g.S.Store first_row 5 (lit< tt) is_user old is new [] (Int (pos 5) ∷ []) (user_row first_row) it.1.cause.error it.1.cause.failed refl refl refl).0 (sym it.1.cause.fault)
 ]
 
 pub returns-clause-other_fault : goal.returns-clause-other_fault
@@ -59,4 +60,10 @@ pub returns-clause-met : goal.returns-clause-met
 returns-clause-met g c = λ old new f is fails. elim fails [
   | inl other ↦ absurd (other.0.1 is)
   | inr it ↦ it.1
+]
+
+pub returns-clause-another_end : goal.returns-clause-another_end
+returns-clause-another_end g c = λ old new f is inside fails. elim fails [
+  | inl other ↦ other.0.1 is
+  | inr it ↦ let k : true ≡ false = sym inside ∙ over_when_failed g.S.Store (founding_office first_row 5) (begun old) new it.1.cause.error it.1.cause.failed in cc
 ]

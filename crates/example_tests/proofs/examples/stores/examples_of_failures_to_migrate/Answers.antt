@@ -30,7 +30,7 @@ module _ {S : Type 0} (g : Ghosts S) (old new : Held S) where
   never_unformed t office meets =
       let same : (state g meets.mid).now ≡ (state g old).now = (row_left _ office_row [] (state g old) (state g meets.mid) (numbered_row (old_form meets.listed)) meets.found.row).0.now_is in
       let there : IsOldOffice (state g meets.mid).now t = subst (λ (d : Database). IsOldOffice d t) (sym same) office in
-      (none_migrated g t (begun meets.mid) meets.met.cause.error there meets.met.cause.failed).0 (sym meets.met.cause.fault)
+      (none_migrated g t (begun meets.mid) new meets.met.cause.error there meets.met.cause.failed).0 (sym meets.met.cause.fault)
 
 pub returns-clause-no_tables : goal.returns-clause-no_tables
 returns-clause-no_tables g c = λ old new is. inl (ap has_old_tables is ∙ nothing_has_none, refl)

@@ -14,7 +14,7 @@ returns-clause-memory g c = λ conn rest shows. record {
   committed = refl;
   idle = rest.idle;
   shows = shows;
-  refused = memory_lacks g.S.Store conn rest _ [];
+  refused = (conn, memory_lacks g.S.Store conn rest _ []);
 }
 
 pub returns-clause-room : goal.returns-clause-room

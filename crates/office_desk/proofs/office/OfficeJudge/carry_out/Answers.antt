@@ -1,8 +1,15 @@
 use Rattle.std.proofs.Common.{sym, subst}
+use Rattle.office_policy.specs.Handled.{Survives}
 use Rattle.office_policy.specs.Judging.{IsPermitted}
+use Rattle.office_desk.specs.Carries.{write_of}
 use Rattle.office_desk.specs.Meant.{meaning_over}
-use Rattle.office_desk.proofs.Carrying.{carried_is}
+use Rattle.office_desk.proofs.Carrying.{call_survives, carried_is}
 use Rattle.office_desk.proofs.office.OfficeJudge.carry_out.Goals as goal
+
+pub returns-clause-survives : goal.returns-clause-survives
+returns-clause-survives g c =
+    subst (λ old. Survives (meaning_over g.S.Store) old c.carry_out.new.conn) c.self.view_is
+    (call_survives g.S.Store c.self.inside.conn c.carry_out.new.conn (write_of c.args.allowed.now) c.carry_out.result c.carry_out.ensures)
 
 pub returns-clause-handled : goal.returns-clause-handled
 returns-clause-handled g c = λ before request permitted.
