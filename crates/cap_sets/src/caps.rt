@@ -17,7 +17,7 @@ use bitflags::Flags;
 use std::marker::Model;
 
 /// A set of the capabilities 0 to 40, numbered as in `linux/capability.h`.
-#[derive(Clone, Copy, PartialEq, Eq, Debug)]
+#[derive(Clone, Copy, PartialEq)]
 pub struct Caps {
     flags: CapFlags,
 }

@@ -12,7 +12,7 @@ use std::error::Error;
 use std::fmt;
 
 /// A file that is executed, by its capabilities.
-#[derive(Clone, Copy, PartialEq, Eq, Debug)]
+#[derive(Clone, Copy)]
 pub enum File {
     /// A file without capabilities.
     Plain,
@@ -29,7 +29,7 @@ pub enum File {
 
 /// `execve` fails with EPERM: the file's effective bit is set, and the process would not gain all
 /// of the file's permitted capabilities.
-#[derive(Clone, Copy, PartialEq, Eq, Debug)]
+#[derive(Clone, Copy, Debug)]
 pub struct Eperm;
 
 impl fmt::Display for Eperm {

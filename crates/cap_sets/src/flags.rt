@@ -6,7 +6,7 @@ ghost use Rattle.cap_sets.specs.Capability.{cap_table};
 use bitflags::{Flag, Flags, bitflag_items};
 
 /// The bits of a set: bit n stands for capability n of `linux/capability.h`.
-#[derive(Clone, Copy, PartialEq, Eq, Debug)]
+#[derive(Clone, Copy, PartialEq)]
 pub(crate) struct CapFlags(pub(crate) u64);
 
 bitflag_items! {

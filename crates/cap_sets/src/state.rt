@@ -10,7 +10,7 @@ use std::fmt;
 
 /// The five capability sets of a process, in a lawful state: effective is within permitted, and
 /// ambient is within both permitted and inheritable.
-#[derive(Clone, Copy, PartialEq, Eq, Debug)]
+#[derive(Clone, Copy)]
 pub struct CapState {
     /// What the kernel checks the process against.
     pub effective: Caps,
@@ -27,7 +27,7 @@ pub struct CapState {
 }
 
 /// Why five sets are no lawful state.
-#[derive(Clone, Copy, PartialEq, Eq, Debug)]
+#[derive(Clone, Copy, Debug)]
 pub enum CapFault {
     /// The number of the lowest effective capability that isn't permitted.
     EffectiveOutside(u8),

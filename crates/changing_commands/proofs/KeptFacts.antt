@@ -1,6 +1,6 @@
 -- An office that is kept with a journal: what is known of it as it is founded, opened, served and closed.
-use Rattle.std.proofs.Common.{◌≡◌, ◌∙◌, ℕ, Bool, List, [], ◌∷◌, ◌++◌, arith, length, length-append, take, Option, Some, None, Result, Ok, Err, IsTrue, true, inl, inr, refl, subst, sym, ap}
-use Rattle.std.specs.Prelude.{IfErr, OnOk, ⊤}
+use Rattle.std.proofs.Common.{◌≡◌, ◌⊎◌, ◌∙◌, ℕ, List, [], ◌∷◌, ◌++◌, arith, length, length-append, take, Option, Some, None, Result, Ok, Err, IsTrue, true, inl, inr, refl, subst, sym, ap}
+use Rattle.std.specs.Prelude.{IfErr, IfOk, OnOk, ⊤}
 use Rattle.std.proofs.lemmas.List.Elements.{All-cons, All-nil}
 use Rattle.std.specs.declared.io.Error.{Error}
 use Rattle.sqlite.specs.Held.{Held}
@@ -22,18 +22,21 @@ use Rattle.journal.proofs.Lengths.{founding_entry}
 use Rattle.office_policy.specs.History.{Event}
 use Rattle.journal.specs.Journals.{IsSettled}
 use Rattle.journal.specs.Logs.{in_log}
-use Rattle.office_desk.specs.Meant.{meaning_over}
-use Rattle.review_policy.specs.declared.fault.Fault.{Fault}
+use Rattle.review_office.specs.Meant.{meaning_over}
+use Rattle.office_words.specs.declared.fault.Fault.{Fault}
 use Rattle.journal.specs.declared.journaled.Journaled.{Journaled}
 use Rattle.command_host.specs.declared.fault.CommandFault.{CommandFault}
 use Rattle.command_host.specs.declared.fault.CommandFault.TheVariants as fault
 use Rattle.changing_commands.specs.declared.founding.Founding.{Founding}
 use Rattle.command_host.specs.declared.no_file.NoFile.{NoFile}
 use Rattle.changing_commands.specs.Foundings.{founding_event, Described, IsFoundedIn}
-use Rattle.changing_commands.specs.Journals.{begun_with, IfJournaled, IsBegunBy, IsClosedKept, IsKeptOffice, IsServedWith, mark_beside}
+use Rattle.changing_commands.specs.Journals.{begun_with, IfJournaled, IsBegunBy, IsClosedKept, IsKeptOffice, IsKeptOver, IsServedWith, mark_beside}
+use Rattle.changing_commands.specs.Journals.{IsUnkept, IsUnkeptOver}
 use Rattle.changing_commands.specs.Journals.{IsUnfoundedBehind, IsUnfoundedWith, WasFoundedBehind}
 use Rattle.command_host.specs.declared.databases.Databases as databases
-use Rattle.command_host.specs.Openings.{IsClosed, IsEnded, IsFirstOf}
+use Rattle.command_host.specs.Marks.{has_journal}
+use Rattle.command_host.specs.Openings.{IsClosed, IsEnded, IsFirstOf, IsUnlimited}
+use Rattle.command_host.proofs.OpenedFacts.{opened_office}
 
 -- nothing is sealed in a file where what is sealed ends at its beginning
 pub none_sealed : (file : List ℕ) (found : Through) → IsThrough file found → found.at ≡ 0 → told file ≡ []
@@ -95,67 +98,91 @@ pub failed_with : (given : Option (List ℕ)) (file : List ℕ) (Without : Comma
 failed_with given file Without With (Ok done) is failed = tt
 failed_with given file Without With (Err why) is failed = subst (λ (o : Option (List ℕ)). IfJournaled o (Without why) (λ file. With file why)) (sym is) failed
 
-module _ {S D C L : Type 0} (g : Ghosts S) (f : DiskGhosts L) (Found : Result L NoFile → Type 0) (d : databases.Ghosts D (Held S) C) (path : List ℕ) (mark : ℕ) (is_marked : Bool)
+module _ {S D C L : Type 0} (g : Ghosts S) (f : DiskGhosts L) (Found : Result L NoFile → Type 0) (d : databases.Ghosts D (Held S) C) (path : List ℕ) (mark : ℕ)
     (Done : (old new : Journaled (Held S) (SealedLog L f)) → Type 0) (Stops : CommandFault → (old new : Journaled (Held S) (SealedLog L f)) → Type 0) where
   pub was_kept : (old new : Journaled (Held S) (SealedLog L f)) → IsKeptOffice g f Found (d.opened path) mark old → (served closed result : Result (Unit {0}) CommandFault)
-      → OnOk served (Done old new) → IfErr served (λ why. Stops why old new) → OnOk closed (IsClosedKept g f is_marked (IsClosed d.closed) new) → IsClosedKept g f is_marked (IsEnded d) new
-      → IfErr closed (λ why. why ≡ fault.Close) → IsFirstOf served closed result → IsServedWith g f Found d path mark is_marked Done Stops result
+      → OnOk served (Done old new) → IfErr served (λ why. Stops why old new) → OnOk closed (IsClosedKept g f (IsClosed d.closed) new) → IsClosedKept g f (IsEnded d) new
+      → IfErr closed (λ why. why ≡ fault.Close) → IsFirstOf served closed result → IsServedWith g f Found d path mark Done Stops result
   was_kept old new office (Ok a) (Ok b) result done stops closed ended why is =
-      subst (λ r. IsServedWith g f Found d path mark is_marked Done Stops r) (sym is) (record { old = old; new = new; office = office; done = done; ended = closed })
+      subst (λ r. IsServedWith g f Found d path mark Done Stops r) (sym is) (record { old = old; new = new; office = office; done = done; ended = closed })
   was_kept old new office (Ok a) (Err w) result done stops closed ended why is =
-      subst (λ r. IsServedWith g f Found d path mark is_marked Done Stops r) (sym is)
+      subst (λ r. IsServedWith g f Found d path mark Done Stops r) (sym is)
       (inr (inr (why, record { old = old; new = new; office = office; done = done; ended = ended })))
   was_kept old new office (Err w) closed result done stops _ ended why is =
-      subst (λ r. IsServedWith g f Found d path mark is_marked Done Stops r) (sym is)
+      subst (λ r. IsServedWith g f Found d path mark Done Stops r) (sym is)
       (inr (inl (record { old = old; new = new; office = office; done = stops; ended = ended })))
 
   -- nothing was done with it
   pub was_only_kept : (x : Journaled (Held S) (SealedLog L f)) → IsKeptOffice g f Found (d.opened path) mark x → (closed : Result (Unit {0}) CommandFault)
-      → Done x x → OnOk closed (IsClosedKept g f is_marked (IsClosed d.closed) x) → IsClosedKept g f is_marked (IsEnded d) x
-      → IfErr closed (λ why. why ≡ fault.Close) → IsServedWith g f Found d path mark is_marked Done Stops closed
+      → Done x x → OnOk closed (IsClosedKept g f (IsClosed d.closed) x) → IsClosedKept g f (IsEnded d) x
+      → IfErr closed (λ why. why ≡ fault.Close) → IsServedWith g f Found d path mark Done Stops closed
   was_only_kept x office closed done shut ended why = was_kept x x office (Ok (tt {0})) closed closed done (tt {0}) shut ended why refl
+
+module _ {S D C L : Type 0} (g : Ghosts S) (f : DiskGhosts L) (Found : Result L NoFile → Type 0) (d : databases.Ghosts D (Held S) C) (path : List ℕ) (mark : ℕ) (conn : Held S)
+    (opened : IsUnlimited (d.opened path) conn) where
+  -- an office over a connection that was opened at a path is the one there
+  pub kept_there : {E : Type 0} (r : Result (Journaled (Held S) (SealedLog L f)) E) → IfOk r (IsKeptOver g f Found conn mark) → IfOk r (IsKeptOffice g f Found (d.opened path) mark)
+  kept_there (Ok x) it = record { was = it.office; office = opened_office g (d.opened path) conn it.office opened it.over; journal = it.journal }
+  kept_there (Err why) it = tt
+
+  -- where its mark is of a journal
+  pub kept_marked : {E : Type 0} (r : Result (Journaled (Held S) (SealedLog L f)) E) → d.marked path (Ok mark) → IsTrue (has_journal mark) → IfOk r (IsKeptOver g f Found conn mark)
+      → IfOk r (λ x. (m : ℕ) × d.marked path (Ok m) × IsTrue (has_journal m) × IsKeptOffice g f Found (d.opened path) m x)
+  kept_marked {E} (Ok x) marked has it = (mark, marked, has, kept_there {E = E} (Ok x) it)
+  kept_marked (Err why) marked has it = tt
+
+  pub unkept_there : {A : Type 0} (r : Result A CommandFault) → IfErr r (IsUnkeptOver g f Found d conn mark) → IfErr r (IsUnkept g f Found d path mark)
+  unkept_there (Ok x) it = tt
+  unkept_there (Err why) (inl it) = inl (inr (conn, opened, it))
+  unkept_there (Err why) (inr it) =
+      inr (record { old = it.0; new = it.1; office = opened_office g (d.opened path) conn it.0 opened it.2; none = it.3; closed = it.4 })
+
+  pub unkept_marked : {A : Type 0} (First : CommandFault → Type 0) (r : Result A CommandFault) → d.marked path (Ok mark) → IsTrue (has_journal mark) → IfErr r (IsUnkeptOver g f Found d conn mark)
+      → IfErr r (λ why. First why ⊎ ((m : ℕ) × d.marked path (Ok m) × IsTrue (has_journal m) × IsUnkept g f Found d path m why))
+  unkept_marked First (Ok x) marked has it = tt
+  unkept_marked {A} First (Err why) marked has it = inr (mark, marked, has, unkept_there {A = A} (Err why) it)
 
 module _ {S D C L : Type 0} (g : Ghosts S) (f : DiskGhosts L) (Created : Result L NoFile → Type 0) (d : databases.Ghosts D (Held S) C) (path : List ℕ) where
   pub founded_behind : (founding : Founding) (log : SealedLog L f) (x : Journaled (Held S) (SealedLog L f)) (r : Result (Unit {0}) CommandFault) → IsBegunBy f Created founding log
-      → x ≡ begun_with x.office log → IsFoundedIn g (d.opened path) (Ok founding) x.office → OnOk r (IsClosedKept g f true (IsClosed d.closed) x)
+      → x ≡ begun_with x.office log → IsFoundedIn g (d.opened path) (Ok founding) x.office → OnOk r (IsClosedKept g f (IsClosed d.closed) x)
       → OnOk r (WasFoundedBehind g f Created (d.opened path) (IsClosed d.closed) founding)
   founded_behind founding log x (Ok done) begun is founded closed = record {
     log = log;
     journal = begun;
     office = x.office;
     founded = founded;
-    ended = subst (λ (y : Journaled (Held S) (SealedLog L f)). IsClosedKept g f true (IsClosed d.closed) y) is closed;
+    ended = subst (λ (y : Journaled (Held S) (SealedLog L f)). IsClosedKept g f (IsClosed d.closed) y) is closed;
   }
   founded_behind founding log x (Err why) begun is founded closed = tt
 
-  pub behind_open : (Removed : Result ⊤ Error → Type 0) (founding : Founding) (log : SealedLog L f) (x : Journaled (Held S) (SealedLog L f)) (r : Result (Unit {0}) CommandFault)
-      → IsBegunBy f Created founding log → x ≡ begun_with x.office log → IsFoundedIn g (d.opened path) (Ok founding) x.office → IsClosedKept g f true (IsEnded d) x
+  pub behind_open : (Removed : L → Result ⊤ Error → Type 0) (founding : Founding) (log : SealedLog L f) (x : Journaled (Held S) (SealedLog L f)) (r : Result (Unit {0}) CommandFault)
+      → IsBegunBy f Created founding log → x ≡ begun_with x.office log → IsFoundedIn g (d.opened path) (Ok founding) x.office → IsClosedKept g f (IsEnded d) x
       → IfErr r (λ why. why ≡ fault.Close) → IfErr r (IsUnfoundedBehind g f Created Removed d path founding)
   behind_open Removed founding log x (Ok done) begun is founded ended closed = tt
   behind_open Removed founding log x (Err why) begun is founded ended closed = inr (record {
     log = log;
     journal = begun;
-    office = inr (closed, (x.office, founded, subst (λ (y : Journaled (Held S) (SealedLog L f)). IsClosedKept g f true (IsEnded d) y) is ended));
+    office = inr (closed, (x.office, founded, subst (λ (y : Journaled (Held S) (SealedLog L f)). IsClosedKept g f (IsEnded d) y) is ended));
   })
 
   -- the founding that words describe
-  pub unfounded_with : (Removed : Result ⊤ Error → Type 0) (described : Described) (founding : Founding) (r : Result (Unit {0}) CommandFault) → described ≡ Ok founding
+  pub unfounded_with : (Removed : L → Result ⊤ Error → Type 0) (described : Described) (founding : Founding) (r : Result (Unit {0}) CommandFault) → described ≡ Ok founding
       → IfErr r (IsUnfoundedBehind g f Created Removed d path founding) → IfErr r (IsUnfoundedWith g f Created Removed d path described)
   unfounded_with Removed described founding (Ok done) is failed = tt
   unfounded_with Removed described founding (Err why) is failed = inr (founding, is, inr failed)
 
-module _ {S L : Type 0} (g : Ghosts S) (f : DiskGhosts L) (is_marked : Bool) (Closed : Held S → Option ℕ → Type 0) (x last : Journaled (Held S) (SealedLog L f)) (came : Result ⊤ Fault)
+module _ {S L : Type 0} (g : Ghosts S) (f : DiskGhosts L) (Closed : Held S → Option ℕ → Type 0) (x last : Journaled (Held S) (SealedLog L f)) (came : Result ⊤ Fault)
     (settled : IsSettled (meaning_over g) (in_log f) x last came) (parts : Held S × SealedLog L f) (are : parts ≡ (last.office, last.journal)) (mark : Option ℕ)
-    (is : mark ≡ mark_beside is_marked parts.1) where
+    (is : mark ≡ mark_beside parts.1) where
   -- an office with its journal was closed with the mark beside that
-  pub closed_kept : Closed parts.0 mark → IsClosedKept g f is_marked Closed x
+  pub closed_kept : Closed parts.0 mark → IsClosedKept g f Closed x
   closed_kept closed = record {
     last = last;
     came = came;
     settled = settled;
-    closed = subst (λ (p : Held S × SealedLog L f). Closed p.0 (mark_beside is_marked p.1)) are (subst (λ (m : Option ℕ). Closed parts.0 m) is closed);
+    closed = subst (λ (p : Held S × SealedLog L f). Closed p.0 (mark_beside p.1)) are (subst (λ (m : Option ℕ). Closed parts.0 m) is closed);
   }
 
-  pub closed_kept_if : (r : Result (Unit {0}) CommandFault) → OnOk r (Closed parts.0 mark) → OnOk r (IsClosedKept g f is_marked Closed x)
+  pub closed_kept_if : (r : Result (Unit {0}) CommandFault) → OnOk r (Closed parts.0 mark) → OnOk r (IsClosedKept g f Closed x)
   closed_kept_if (Ok done) closed = closed_kept closed
   closed_kept_if (Err why) closed = tt

@@ -1,5 +1,5 @@
 -- What a command leaves of an office with a journal in the files of a host.
-use Rattle.std.proofs.Common.{ℕ, Bool, true, [], IsTrue, Result, subst, sym}
+use Rattle.std.proofs.Common.{ℕ, [], IsTrue, Result, subst, sym}
 use Rattle.sqlite_disk.specs.declared.Disk as disk
 use Rattle.sqlite_wal.specs.Reads.{AreClean}
 use Rattle.sqlite_wal.specs.Recovery.{Image}
@@ -18,7 +18,7 @@ use Rattle.office_policy.specs.TablesOf.{tables_of}
 use Rattle.journal.specs.Journals.{IsOf}
 use Rattle.journal.specs.Logs.{in_log}
 use Rattle.journal.specs.declared.journaled.Journaled.{Journaled}
-use Rattle.office_desk.specs.Meant.{meaning_over}
+use Rattle.review_office.specs.Meant.{meaning_over}
 use Rattle.command_host.specs.declared.no_file.NoFile.{NoFile}
 use Rattle.command_host.specs.HostFiles.{IsClosedInto, IsFoundIn}
 use Rattle.command_host.specs.Openings.{IsClosed}
@@ -30,22 +30,22 @@ use Rattle.changing_commands.proofs.LeftFacts.{left, served}
 
 module _ {D L : Type 0} (g : disk.Ghosts D) (f : disk.Ghosts L) where
   -- an office with its journal that was of a history, and was closed, is left so
-  ended : (is_marked : Bool) (h : History) (x : Journaled (Held (FileStore D g)) (SealedLog L f)) (it : IsClosedKept (over_files {g = g}) f is_marked (IsClosed IsClosedInto) x)
+  ended : (h : History) (x : Journaled (Held (FileStore D g)) (SealedLog L f)) (it : IsClosedKept (over_files {g = g}) f (IsClosed IsClosedInto) x)
       → (HasCleanDisk (file_state x.office) → IsTrue (f.is_clean x.journal.disk) → IsOf (meaning_over over_files) (in_log f) h x)
-      → IsTrue (f.is_clean it.last.journal.disk) → AreClean g it.closed.0.log it.closed.0.db → HoldBoth g f it.closed.0 it.last h is_marked
-  ended is_marked h x it of clean_log clean =
+      → IsTrue (f.is_clean it.last.journal.disk) → AreClean g it.closed.0.log it.closed.0.db → HoldBoth g f it.closed.0 it.last h
+  ended h x it of clean_log clean =
       let is_clean = (it.closed.1 clean).was_clean in
       let was = it.settled.survives.clean (is_clean, clean_log) in
       let left_of = it.settled.of h (of was.0 was.1) in
       record {
-        office = left g it.last.office (mark_beside is_marked it.last.journal) it.closed h (λ clean. left_of.office);
+        office = left g it.last.office (mark_beside it.last.journal) it.closed h (λ clean. left_of.office);
         journal = λ clean goes. left_of.says (is_clean, clean) goes;
-        mark = λ clean. no_more is_marked it.last.journal clean;
+        mark = λ clean. no_more it.last.journal clean;
       }
 
   pub founding_left : (Created : Result L NoFile → Type 0) → KeptFoundingIsLeft g f Created
   founding_left Created image founding it clean_log clean =
-      ended true _ _ it.ended
+      ended _ _ it.ended
       (λ clean_disk clean_file. record {
         office = it.founded.founded.0;
         says = λ clean goes. it.journal.says clean.1;
@@ -61,25 +61,25 @@ module _ {D L : Type 0} (g : disk.Ghosts D) (f : disk.Ghosts L) where
         it.journal.again.journal clean_log h (served g h image lawful holds it.was it.office (it.journal.again.office.survives.clean clean)) tells clean
 
     pub desk_left : KeptDeskIsLeft g f Found
-    desk_left h image mark is_marked lawful holds it clean_log tells clean =
+    desk_left h image mark lawful holds it clean_log tells clean =
         let is_clean = (it.ended.closed.1 clean).was_clean in
         let was = it.done.handled.survives.clean (it.ended.settled.survives.clean (is_clean, clean_log)) in
         let opened = kept h image mark lawful holds it.old it.office was.1 tells was.0 in
         record {
           now = opened.now;
           tables = opened.tables;
-          hold = ended is_marked _ it.new it.ended (λ clean_disk clean_file. it.done.handled.office opened.now opened.of) clean_log clean;
+          hold = ended _ it.new it.ended (λ clean_disk clean_file. it.done.handled.office opened.now opened.of) clean_log clean;
         }
 
     pub exchanges_left : KeptExchangesAreLeft g f Found
-    exchanges_left h image most mark is_marked lawful holds it clean_log tells clean =
+    exchanges_left h image most mark lawful holds it clean_log tells clean =
         let is_clean = (it.ended.closed.1 clean).was_clean in
         let was = it.done.1.handled.survives.clean (it.ended.settled.survives.clean (is_clean, clean_log)) in
         let opened = kept h image mark lawful holds it.old it.office was.1 tells was.0 in
         record {
           now = opened.now;
           tables = opened.tables;
-          hold = ended is_marked _ it.new it.ended (λ clean_disk clean_file. it.done.1.handled.office opened.now opened.of) clean_log clean;
+          hold = ended _ it.new it.ended (λ clean_disk clean_file. it.done.1.handled.office opened.now opened.of) clean_log clean;
         }
 
     pub marking_left : MarkingIsLeft g f Found
@@ -92,5 +92,5 @@ module _ {D L : Type 0} (g : disk.Ghosts D) (f : disk.Ghosts L) where
         record {
           now = opened.now;
           tables = opened.tables;
-          hold = ended true _ it.new it.ended (λ clean_disk clean_file. subst Of (sym it.done) opened.of) clean_log clean;
+          hold = ended _ it.new it.ended (λ clean_disk clean_file. subst Of (sym it.done) opened.of) clean_log clean;
         }

@@ -12,7 +12,7 @@ use Rattle.office_founding.proofs.Reopened.{found_shows, found_shows_old}
 use Rattle.office_policy.specs.History.{History}
 use Rattle.office_policy.specs.Lawful.{IsLawfulHistory}
 use Rattle.office_policy.specs.TablesOf.{tables_of}
-use Rattle.office_desk.specs.Offices.{IsOffice}
+use Rattle.review_office.specs.Offices.{IsOffice}
 use Rattle.changing_commands.specs.Hosts.{HoldHistory, FoundingIsLeft, DeskIsLeft, ExchangesAreLeft}
 use Rattle.changing_commands.specs.Hosts.{MigrationIsLeft}
 use Rattle.command_host.specs.HostFiles.{IsFoundIn, IsClosedInto}

@@ -10,9 +10,9 @@ use Rattle.sqlite_store.specs.declared.store.FileStore.{FileStore}
 use Rattle.sqlite.specs.Effect.{Database}
 use Rattle.sqlite.specs.Files.{file_state, image_of}
 use Rattle.sqlite.specs.Held.{Held}
-use Rattle.marked_store.specs.Marks.{IsCopiedAs, marked}
-use Rattle.marked_store.proofs.Marking.{marked_sound}
-use Rattle.office_tables.specs.Tables.{Tables}
+use Rattle.database_files.specs.Marks.{IsCopiedAs, marked}
+use Rattle.database_files.proofs.Marking.{marked_sound}
+use Rattle.office_words.specs.Tables.{Tables}
 use Rattle.office_store.specs.Schema.{office_schema}
 use Rattle.office_store.specs.Shown.{AreOffice, Shows}
 use Rattle.office_store.proofs.Committed.{trees_of}
@@ -20,7 +20,8 @@ use Rattle.office_founding.specs.Reopening.{HoldsOffice}
 use Rattle.sealed_log.specs.Log.{bodies_of}
 use Rattle.sealed_log.specs.declared.log.SealedLog.{SealedLog}
 use Rattle.journal.specs.Logs.{in_log}
-use Rattle.changing_commands.specs.Journals.{mark_beside, mark_of_lines}
+use Rattle.command_host.specs.Marks.{mark_of_lines}
+use Rattle.changing_commands.specs.Journals.{mark_beside}
 use Rattle.changing_commands.specs.KeptHosts.{IsNoMore}
 
 -- no table of an office stands where the mark does
@@ -56,10 +57,8 @@ module _ {D : Type 0} {g : Ghosts D} (c : Held (FileStore D g)) (mark : Option �
   crashed_holds left may = record { trees = marked mark (file_state c).committed.trees; office = closed_office; held = (copied.left left may).both }
 
 -- a log has as many lines as it counts
-pub no_more : {L : Type 0} {f : Ghosts L} (is_marked : Bool) (log : SealedLog L f) → IsTrue (f.is_clean log.disk)
-    → IsNoMore (mark_beside is_marked log) (length (bodies_of f log))
-no_more false log clean = tt
-no_more {f = f} true log clean =
+pub no_more : {L : Type 0} {f : Ghosts L} (log : SealedLog L f) → IsTrue (f.is_clean log.disk) → IsNoMore (mark_beside log) (length (bodies_of f log))
+no_more {f = f} log clean =
     let lines = length (bodies_of f log) in
     let marks : Bool → Type 0 = λ b. IsNoMore (if b then Some (mark_of_lines log.lines) else None) lines in
     elim (cases_Bool log.is_open) [

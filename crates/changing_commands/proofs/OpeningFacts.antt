@@ -1,5 +1,5 @@
 -- An office at a path: what is known of it as it is opened, served and closed.
-use Rattle.std.proofs.Common.{◌≡◌, ℕ, List, inl, inr, Option, None, Result, Ok, Err, subst, sym}
+use Rattle.std.proofs.Common.{◌≡◌, ℕ, List, inl, inr, Option, None, Result, Ok, Err, refl, subst, sym}
 use Rattle.std.specs.Prelude.{IfErr, OnOk}
 use Rattle.sqlite.specs.Held.{Held, state}
 use Rattle.sqlite.specs.State.{HasCleanDisk}
@@ -12,24 +12,33 @@ use Rattle.office_founding.specs.Founding.{first_user, FailsToFound}
 use Rattle.office_store.specs.Shown.{AreOffice, MayLeave}
 use Rattle.office_founding.specs.declared.fault.FoundingFault.{FoundingFault}
 use Rattle.office_policy.specs.TablesOf.{tables_of}
-use Rattle.office_desk.specs.Opened.{IsHandedBack}
+use Rattle.review_office.specs.Opened.{IsHandedBack}
 use Rattle.changing_commands.specs.Foundings.{history_of, IsFoundedIn, IsNotFounded, IsUnfounded, WasFounded}
 use Rattle.command_host.specs.declared.databases.Databases as databases
-use Rattle.command_host.specs.Openings.{IsClosed, IsEnded, IsFirstOf, IsOpenedOffice, IsServed}
+use Rattle.command_host.specs.Openings.{IsClosed, IsEnded, IsFirstOf, IsOpenedOffice, IsServed, IsServedFrom}
+
+module _ {S D C : Type 0} (d : databases.Ghosts D (Held S) C) (Done : (old new : Held S) → Type 0) (Stops : CommandFault → (old new : Held S) → Type 0) (mark : Option ℕ) where
+  -- an office that was served, and then closed
+  pub was_served : (old new : Held S) → (served closed result : Result (Unit {0}) CommandFault)
+      → OnOk served (Done old new) → IfErr served (λ why. Stops why old new) → OnOk closed (IsClosed d.closed new mark) → IsEnded d new mark → IfErr closed (λ why. why ≡ fault.Close)
+      → IsFirstOf served closed result → IsServed d Done Stops mark old result
+  was_served old new (Ok a) (Ok b) result done stops closed ended why is = subst (λ r. IsServed d Done Stops mark old r) (sym is) (new, done, closed)
+  was_served old new (Ok a) (Err f) result done stops closed ended why is = subst (λ r. IsServed d Done Stops mark old r) (sym is) (inr (why, (new, done, ended)))
+  was_served old new (Err f) closed result done stops _ ended why is = subst (λ r. IsServed d Done Stops mark old r) (sym is) (inl (new, stops, ended))
+
+  -- the same of one that was opened
+  pub served_from : (g : Ghosts S) (Opened : Held S → Type 0) (old : Held S) → IsOpenedOffice g Opened old → (r : Result (Unit {0}) CommandFault) → IsServed d Done Stops mark old r
+      → IsServedFrom g d Opened Done Stops mark r
+  served_from g Opened old office (Ok done) it = record { old = old; new = it.0; office = office; done = it.1; closed = it.2 }
+  served_from g Opened old office (Err why) (inl it) = inl (record { old = old; new = it.0; office = office; done = it.1; closed = it.2 })
+  served_from g Opened old office (Err why) (inr it) = inr (it.0, record { old = old; new = it.1.0; office = office; done = it.1.1; closed = it.1.2 })
 
 module _ {S D C : Type 0} (g : Ghosts S) (d : databases.Ghosts D (Held S) C) (path : List ℕ) where
-  module _ (Done : (old new : Held S) → Type 0) (Stops : CommandFault → (old new : Held S) → Type 0) (mark : Option ℕ) where
-    pub was_served : (old new : Held S) → IsOpenedOffice g (d.opened path) old → (served closed result : Result (Unit {0}) CommandFault)
-        → OnOk served (Done old new) → IfErr served (λ why. Stops why old new) → OnOk closed (IsClosed d.closed new mark) → IsEnded d new mark → IfErr closed (λ why. why ≡ fault.Close)
-        → IsFirstOf served closed result → IsServed g d path Done Stops mark result
-    was_served old new office (Ok a) (Ok b) result done stops closed ended why is =
-        subst (λ r. IsServed g d path Done Stops mark r) (sym is) (record { old = old; new = new; office = office; done = done; closed = closed })
-    was_served old new office (Ok a) (Err f) result done stops closed ended why is =
-        subst (λ r. IsServed g d path Done Stops mark r) (sym is)
-        (inr (inr (why, record { old = old; new = new; office = office; done = done; closed = ended })))
-    was_served old new office (Err f) closed result done stops _ ended why is =
-        subst (λ r. IsServed g d path Done Stops mark r) (sym is)
-        (inr (inl (record { old = old; new = new; office = office; done = stops; closed = ended })))
+  -- one that was opened, and then closed with a mark
+  pub only_closed : (mark : Option ℕ) (office : Held S) → IsOpenedOffice g (d.opened path) office → (r : Result (Unit {0}) CommandFault) → OnOk r (IsClosed d.closed office mark) → IsEnded d office mark
+      → IfErr r (λ why. why ≡ fault.Close) → IsServedFrom g d (d.opened path) (λ old new. new ≡ old) (λ why old new. ⊥) mark r
+  only_closed mark office opened (Ok done) closed ended is = record { old = office; new = office; office = opened; done = refl; closed = closed }
+  only_closed mark office opened (Err why) closed ended is = inr (is, record { old = office; new = office; office = opened; done = refl; closed = ended })
 
   pub founded_closed : (described : Result Founding FoundingWordsFault) (office : Held S) (r : Result (Unit {0}) CommandFault)
       → IsFoundedIn g (d.opened path) described office → OnOk r (IsClosed d.closed office None) → OnOk r (WasFounded g (d.opened path) (IsClosed d.closed) described)

@@ -5,8 +5,8 @@ use Rattle.sqlite.specs.Held.{Held}
 use Rattle.sqlite.specs.Store.{Ghosts}
 use Rattle.cap_sets.specs.Capability.{number_from}
 use Rattle.hex.proofs.OnLiterals.{hex_on_literals}
-use Rattle.review_policy.specs.Digests.{digest_from_hex}
-use Rattle.review_policy.specs.Words.{is_word}
+use Rattle.office_words.specs.Digests.{digest_from_hex}
+use Rattle.office_words.specs.Words.{is_word}
 use Rattle.memory_database.specs.MemoryStore.{MemoryStore, over_memory}
 use Rattle.changing_commands.specs.Foundings.{Described, Gives, IsFoundedAs, IsFoundedBy}
 use Rattle.changing_commands.specs.Trials.{trial_founding, HasTried}
@@ -37,8 +37,8 @@ pub founded_as : {S : Type 0} (g : Ghosts S) (described : Described) (founding :
     → IsFoundedAs g described office
 founded_as g described founding office is by = subst (λ (d : Described). IsFoundedAs g d office) (sym is) by
 
-module _ (Done : (old new : Held MemoryStore) → Type 0) (Stops : CommandFault → (old new : Held MemoryStore) → Type 0) (old : Held MemoryStore) where
+module _ (Unbegun : Type 0) (Done : (old new : Held MemoryStore) → Type 0) (Stops : CommandFault → (old new : Held MemoryStore) → Type 0) (old : Held MemoryStore) where
   pub tried : IsFoundedAs over_memory trial_founding old → (result : Result (Unit {0}) CommandFault) → OnOk result ((new : Held MemoryStore) × Done old new)
-      → IfErr result (λ why. (new : Held MemoryStore) × Stops why old new) → HasTried Done Stops result
+      → IfErr result (λ why. (new : Held MemoryStore) × Stops why old new) → HasTried Unbegun Done Stops result
   tried founded (Ok done) all stops = record { old = old; new = all.0; founded = founded; done = all.1 }
   tried founded (Err why) all stops = inr (record { old = old; new = stops.0; founded = founded; done = stops.1 })

@@ -13,11 +13,11 @@ use Rattle.office_founding.specs.declared.fault.FoundingFault.{FoundingFault}
 use Rattle.office_policy.specs.History.{Event, History, founded}
 use Rattle.office_policy.specs.Handled.{Stands}
 use Rattle.office_policy.specs.TablesOf.{tables_of}
-use Rattle.office_desk.specs.Offices.{IsOffice}
-use Rattle.office_desk.specs.Meant.{meaning_over}
+use Rattle.review_office.specs.Offices.{IsOffice}
+use Rattle.review_office.specs.Meant.{meaning_over}
 use Rattle.cap_sets.specs.Capability.{set_named}
-use Rattle.review_policy.specs.Digests.{digest_from_hex}
-use Rattle.review_policy.specs.Words.{is_word}
+use Rattle.office_words.specs.Digests.{digest_from_hex}
+use Rattle.office_words.specs.Words.{is_word}
 use Rattle.command_host.specs.declared.founding_fault.FoundingWordsFault.{FoundingWordsFault}
 use Rattle.command_host.specs.declared.founding_fault.FoundingWordsFault.TheVariants as refusal
 use Rattle.command_host.specs.Openings.{IsEnded, IsUnlimited, IsUnopened}
@@ -131,11 +131,10 @@ IsUndescribed described _ = ⊥
 -- may have been refused in place of either.
 abbrev pub IsUnfoundedAs : {S D C : Type 0} → Ghosts S → databases.Ghosts D (Held S) C
     → (path : List ℕ) → Described → CommandFault → Type 0
-IsUnfoundedAs g d path described (fault.FoundingWords why) = Gives (Err why) described
-IsUnfoundedAs g d path described (fault.Founding why) =
-    WasNotFounded g (d.opened path) (IsEnded d) described why
-IsUnfoundedAs g d path described (fault.Store why) = IsDescribed described × IsUnopened d path why
-IsUnfoundedAs g d path described _ = ⊥
+IsUnfoundedAs g d path described why =
+    IsUndescribed described why ⊎ (IsDescribed described × IsUnopened d path why)
+    ⊎ ((refused : FoundingFault) × (why ≡ fault.Founding refused)
+    × WasNotFounded g (d.opened path) (IsEnded d) described refused)
 
 -- nothing is founded as words describe, for this; or an office was, in a database that was opened, and
 -- couldn't be closed

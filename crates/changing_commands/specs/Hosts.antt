@@ -7,15 +7,15 @@ use Rattle.sqlite_wal.specs.Files.{outcomes}
 use Rattle.sqlite_wal.specs.Reads.{AreClean}
 use Rattle.sqlite_wal.specs.Recovery.{Image}
 use Rattle.sqlite.specs.Files.{image_of, over_files}
-use Rattle.desk.specs.Outcomes.{history_after_lines}
-use Rattle.desk.specs.Stands.{HasHandled}
+use Rattle.desk_lines.specs.Outcomes.{history_after_lines}
+use Rattle.desk_lines.specs.Stands.{HasHandled}
 use Rattle.desk_http.specs.Exchanged.{requests_in, answers_in}
 use Rattle.office_founding.specs.Reopening.{HoldsOffice, HoldsOldOffice}
 use Rattle.office_policy.specs.History.{History}
 use Rattle.office_policy.specs.Lawful.{IsLawfulHistory}
 use Rattle.office_policy.specs.Runs.{history_after_all}
 use Rattle.office_policy.specs.TablesOf.{tables_of}
-use Rattle.office_desk.specs.Meant.{meaning_over}
+use Rattle.review_office.specs.Meant.{meaning_over}
 use Rattle.changing_commands.specs.declared.founding.Founding.{Founding}
 use Rattle.changing_commands.specs.declared.rebuild.Built.{Built}
 use Rattle.changing_commands.specs.Foundings.{WasFounded, history_of}

@@ -11,13 +11,14 @@ use Rattle.sealed_log.specs.declared.log.SealedLog.{SealedLog}
 use Rattle.journal.specs.Journal.{Says}
 use Rattle.journal.specs.Lines.{happened, text_of}
 use Rattle.office_policy.specs.Meaning.{Meaning}
-use Rattle.office_desk.specs.Meant.{meaning_over}
+use Rattle.review_office.specs.Meant.{meaning_over}
+use Rattle.review_office.specs.Opened.{IsOver}
 use Rattle.office_policy.specs.EventForms.{HasForms}
 use Rattle.journal.specs.Journals.{IsSettled, journaled}
 use Rattle.journal.specs.Logs.{in_log}
 use Rattle.journal.specs.declared.journaled.Journaled.{Journaled}
 use Rattle.journal_office.specs.Opening.{IsHandedBack, IsReopened}
-use Rattle.review_policy.specs.declared.fault.Fault.{Fault}
+use Rattle.office_words.specs.declared.fault.Fault.{Fault}
 use Rattle.command_host.specs.declared.fault.CommandFault.{CommandFault}
 use Rattle.command_host.specs.declared.fault.CommandFault.TheVariants as fault
 use Rattle.changing_commands.specs.declared.founding.Founding.{Founding}
@@ -25,7 +26,8 @@ use Rattle.command_host.specs.declared.no_file.NoFile.{NoFile}
 use Rattle.changing_commands.specs.Foundings.{founding_event, history_of, Described}
 use Rattle.changing_commands.specs.Foundings.{IsFoundedIn, IsUndescribed, IsUnfoundedAs}
 use Rattle.command_host.specs.NoFiles.{file_fault}
-use Rattle.command_host.specs.Openings.{IsClosed, IsEnded, IsOfOpening, IsOpenedOffice}
+use Rattle.command_host.specs.Marks.{mark_of_lines}
+use Rattle.command_host.specs.Openings.{IsClosed, IsEnded, IsNotOver, IsOfOpening, IsOpenedOffice}
 use Rattle.command_host.specs.declared.databases.Databases as databases
 use Rattle.no_memory.specs.Witness.{witness}
 
@@ -39,23 +41,13 @@ abbrev pub journaled_over : {S L : Type 0} (g : Ghosts S) (f : DiskGhosts L)
     → Meaning (Journaled (Held S) (SealedLog L f))
 journaled_over g f = journaled (meaning_over g) (in_log f)
 
--- the mark of a database whose journal has so many lines
-abbrev pub mark_of_lines : ℕ → ℕ
-mark_of_lines lines = min lines (2 ^ 32 - 1)
-
--- the mark that is set beside a journal: that of its lines, where it is open and the database is
--- marked
-abbrev pub mark_beside : {L : Type 0} {f : DiskGhosts L} → Bool → SealedLog L f → Option ℕ
-mark_beside is_marked log =
-    if is_marked && log.is_open then Some (mark_of_lines log.lines) else None
-
--- a database of this mark is marked
-abbrev pub is_marked : ℕ → Bool
-is_marked mark = not (mark == 0)
+-- the mark that is set beside a journal: that of its lines, where it is open
+abbrev pub mark_beside : {L : Type 0} {f : DiskGhosts L} → SealedLog L f → Option ℕ
+mark_beside log = if log.is_open then Some (mark_of_lines log.lines) else None
 
 -- a file was removed, of which this is known, whatever came of that
-abbrev pub IsRemoved : (Result ⊤ Error → Type 0) → Type 0
-IsRemoved Removed = (told : Result ⊤ Error) × Removed told
+abbrev pub IsRemoved : {L : Type 0} → (L → Result ⊤ Error → Type 0) → L → Type 0
+IsRemoved Removed file = (told : Result ⊤ Error) × Removed file told
 
 -- the line of a founding
 abbrev pub line_of : Founding → List ℕ
@@ -80,12 +72,14 @@ pub record IsBegunBy {L : Type 0} (f : DiskGhosts L) (Created : Result L NoFile 
   pub line : HasLine f founding log
   pub says : IsTrue (f.is_clean log.disk) → Says (bodies_of f log) (history_of founding)
 
--- no file was made; or one was, and was removed since the line couldn't be written
-abbrev pub IsUnbegun : {L : Type 0} (Created : Result L NoFile → Type 0)
-    (Removed : Result ⊤ Error → Type 0) → CommandFault → Type 0
-IsUnbegun {L} Created Removed why =
+-- no file was made; or one was, and that very file, as it is later, was removed since the line couldn't
+-- be written
+abbrev pub IsUnbegun : {L : Type 0} (f : DiskGhosts L) (Created : Result L NoFile → Type 0)
+    (Removed : L → Result ⊤ Error → Type 0) → CommandFault → Type 0
+IsUnbegun {L} f Created Removed why =
     ((e : NoFile) × Created (Err e) × (why ≡ file_fault e))
-    ⊎ ((why ≡ fault.Journal) × ((made : L) × Created (Ok made)) × IsRemoved Removed)
+    ⊎ ((why ≡ fault.Journal) × ((made left : L) × Created (Ok made) × IsLater f made left
+    × IsRemoved Removed left))
 
 -- an office with the journal that was begun for it
 abbrev pub begun_with : {S L : Type 0} {f : DiskGhosts L} → Held S → SealedLog L f
@@ -94,13 +88,13 @@ begun_with office log =
     record { office = office; journal = log; has_stray = false; is_settled = false }
 
 -- An office with a journal was closed, of which this is known. Before, its last event was settled,
--- where that could be. A database that is marked got the mark of the journal.
-pub record IsClosedKept {S L : Type 0} (g : Ghosts S) (f : DiskGhosts L) (is_marked : Bool)
+-- where that could be. The database got the mark of the journal.
+pub record IsClosedKept {S L : Type 0} (g : Ghosts S) (f : DiskGhosts L)
     (Closed : Held S → Option ℕ → Type 0) (x : Journaled (Held S) (SealedLog L f)) : Type 0 where
   pub last : Journaled (Held S) (SealedLog L f)
   pub came : Result ⊤ Fault
   pub settled : IsSettled (meaning_over g) (in_log f) x last came
-  pub closed : Closed last.office (mark_beside is_marked last.journal)
+  pub closed : Closed last.office (mark_beside last.journal)
 
 module _ {S L : Type 0} (g : Ghosts S) (f : DiskGhosts L) (Created : Result L NoFile → Type 0) where
   -- a journal was begun by a founding, and then its office was founded and closed with it
@@ -110,7 +104,7 @@ module _ {S L : Type 0} (g : Ghosts S) (f : DiskGhosts L) (Created : Result L No
     pub journal : IsBegunBy f Created founding log
     pub office : Held S
     pub founded : IsFoundedIn g Opened (Ok founding) office
-    pub ended : IsClosedKept g f true Closed (begun_with office log)
+    pub ended : IsClosedKept g f Closed (begun_with office log)
 
   -- a journal was begun by the founding that words describe, and then its office was founded and closed
   -- with it
@@ -120,22 +114,22 @@ module _ {S L : Type 0} (g : Ghosts S) (f : DiskGhosts L) (Created : Result L No
     pub is : described ≡ Ok founding
     pub founded : WasFoundedBehind Opened Closed founding
 
-  module _ {D C : Type 0} (Removed : Result ⊤ Error → Type 0) (d : databases.Ghosts D (Held S) C)
-      (path : List ℕ) where
-    -- a journal was begun by a founding, and then nothing was founded for this, and the file was
+  module _ {D C : Type 0} (Removed : L → Result ⊤ Error → Type 0)
+      (d : databases.Ghosts D (Held S) C) (path : List ℕ) where
+    -- a journal was begun by a founding, and then nothing was founded for this, and its file was
     -- removed; or its office was founded, and couldn't be closed
     pub record IsUnfoundedThen (founding : Founding) (why : CommandFault) : Type 0 where
       pub log : SealedLog L f
       pub journal : IsBegunBy f Created founding log
-      pub office : (IsUnfoundedAs g d path (Ok founding) why × IsRemoved Removed)
+      pub office : (IsUnfoundedAs g d path (Ok founding) why × IsRemoved Removed log.disk)
           ⊎ ((why ≡ fault.Close) × ((office : Held S)
           × IsFoundedIn g (d.opened path) (Ok founding) office
-          × IsClosedKept g f true (IsEnded d) (begun_with office log)))
+          × IsClosedKept g f (IsEnded d) (begun_with office log)))
 
     -- no journal was begun by a founding; or one was, and nothing was founded, or the office couldn't
     -- be closed
     abbrev pub IsUnfoundedBehind : Founding → CommandFault → Type 0
-    IsUnfoundedBehind founding why = IsUnbegun Created Removed why ⊎ IsUnfoundedThen founding why
+    IsUnfoundedBehind founding why = IsUnbegun f Created Removed why ⊎ IsUnfoundedThen founding why
 
     -- words describe no founding; or they describe one, and there was no memory for its line, or no
     -- office was founded by it and closed with a journal
@@ -163,6 +157,21 @@ module _ {S L : Type 0} (g : Ghosts S) (f : DiskGhosts L)
   IsOfJournal mark old new why =
       (e : NoFile) × Found (Err e) × (why ≡ file_fault e) × (new ≡ old)
 
+  -- the office over a connection was opened again so
+  pub record IsKeptOver (conn : Held S) (mark : ℕ) (x : Journaled (Held S) (SealedLog L f))
+      : Type 0 where
+    pub office : Held S
+    pub over : IsOver g conn office
+    pub journal : IsOpenedWith mark office x
+
+  -- no office is over a connection; or one is, has no journal for this, and was closed
+  abbrev pub IsUnkeptOver : {D C : Type 0} → databases.Ghosts D (Held S) C → (conn : Held S)
+      → (mark : ℕ) → CommandFault → Type 0
+  IsUnkeptOver d conn mark why =
+      IsNotOver d g conn why
+      ⊎ ((old new : Held S) × IsOver g conn old × IsOfJournal mark old new why
+      × IsEnded d new None)
+
   module _ (Opened : Held S → Type 0) (mark : ℕ) where
     -- the office over a database that was opened, of which this is known, was opened again so
     pub record IsKeptOffice (x : Journaled (Held S) (SealedLog L f)) : Type 0 where
@@ -172,14 +181,13 @@ module _ {S L : Type 0} (g : Ghosts S) (f : DiskGhosts L)
 
     -- an office was opened again with its journal, this was done with it, and both were closed, of
     -- which this is known
-    pub record WasKept (is_marked : Bool)
-        (Done : (old new : Journaled (Held S) (SealedLog L f)) → Type 0)
+    pub record WasKept (Done : (old new : Journaled (Held S) (SealedLog L f)) → Type 0)
         (Closed : Held S → Option ℕ → Type 0) : Type 0 where
       pub old : Journaled (Held S) (SealedLog L f)
       pub new : Journaled (Held S) (SealedLog L f)
       pub office : IsKeptOffice old
       pub done : Done old new
-      pub ended : IsClosedKept g f is_marked Closed new
+      pub ended : IsClosedKept g f Closed new
 
     -- an office was opened, has no journal for this, and was closed as it was marked, of which this is
     -- known
@@ -201,12 +209,11 @@ module _ {S L : Type 0} (g : Ghosts S) (f : DiskGhosts L)
     -- A command that serves an office with its journal ended so. Where it failed, there was no such
     -- office; or it stopped for this, and the office was closed, whatever came of that. Or all was
     -- done, and the office couldn't be closed.
-    abbrev pub IsServedWith : (is_marked : Bool)
-        → (Done : (old new : Journaled (Held S) (SealedLog L f)) → Type 0)
+    abbrev pub IsServedWith : (Done : (old new : Journaled (Held S) (SealedLog L f)) → Type 0)
         → (Stops : CommandFault → (old new : Journaled (Held S) (SealedLog L f)) → Type 0)
         → Result (Unit {0}) CommandFault → Type 0
-    IsServedWith is_marked Done Stops (Ok done) =
-        WasKept (d.opened path) mark is_marked Done (IsClosed d.closed)
-    IsServedWith is_marked Done Stops (Err why) =
-        IsUnkept why ⊎ WasKept (d.opened path) mark is_marked (Stops why) (IsEnded d)
-        ⊎ ((why ≡ fault.Close) × WasKept (d.opened path) mark is_marked Done (IsEnded d))
+    IsServedWith Done Stops (Ok done) =
+        WasKept (d.opened path) mark Done (IsClosed d.closed)
+    IsServedWith Done Stops (Err why) =
+        IsUnkept why ⊎ WasKept (d.opened path) mark (Stops why) (IsEnded d)
+        ⊎ ((why ≡ fault.Close) × WasKept (d.opened path) mark Done (IsEnded d))

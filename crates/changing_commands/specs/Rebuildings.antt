@@ -1,5 +1,6 @@
 -- An office in a file that was built anew of a journal.
-use Rattle.std.specs.Prelude.{◌≡◌, ◌⊎◌, ℕ, List, codes, Option, Some, None, Result}
+use Rattle.std.specs.Prelude.{◌≡◌, ◌⊎◌, ◌-◌, ℕ, List, codes, Option, Some, None, Result}
+use Rattle.std.specs.Prelude.{nat_lt, if◌then◌else◌}
 use Rattle.std.specs.declared.io.Error.{Error as IoError}
 use Rattle.sqlite.specs.Held.{Held, state}
 use Rattle.sqlite.specs.Store.{Ghosts}
@@ -9,13 +10,12 @@ use Rattle.journal_office.specs.Rebuilding.{IsBuilt, IsUnbuilt}
 use Rattle.journal_faults.specs.declared.refused.Refused.{Refused}
 use Rattle.journal_faults.specs.declared.refused.Why.{Why}
 use Rattle.journal_faults.specs.declared.refused.Why.TheVariants as halt
-use Rattle.office_desk.specs.Meant.{meaning_over}
+use Rattle.review_office.specs.Meant.{meaning_over}
 use Rattle.office_store.specs.Schema.{no_schema}
-use Rattle.review_policy.specs.declared.fault.Fault.{Fault}
 use Rattle.command_host.specs.declared.databases.Databases as databases
 use Rattle.command_host.specs.declared.fault.CommandFault.{CommandFault}
 use Rattle.command_host.specs.declared.fault.CommandFault.TheVariants as fault
-use Rattle.changing_commands.specs.Journals.{mark_of_lines}
+use Rattle.command_host.specs.Marks.{mark_of_lines}
 use Rattle.changing_commands.specs.declared.rebuild.Built.{Built}
 use Rattle.command_host.specs.ReadFaults.{IsToldOf}
 use Rattle.command_host.specs.JournalTexts.{IsNoText, IsTextAt}
@@ -31,6 +31,10 @@ told_by refused _ = fault.Unbuilt refused
 
 abbrev pub told_of : Refused → CommandFault
 told_of refused = told_by refused refused.why
+
+-- the mark of a database in which all before a line happened again
+abbrev pub mark_before : ℕ → Option ℕ
+mark_before line = if nat_lt 1 line then Some (mark_of_lines (line - 1)) else None
 
 -- of journals of which this is known as they are opened, and whose bytes are these
 module _ {S F : Type 0} (g : Ghosts S) (Opens : Result F IoError → Type 0)
@@ -53,7 +57,7 @@ module _ {S F : Type 0} (g : Ghosts S) (Opens : Result F IoError → Type 0)
     pub closed : Closed office (Some (mark_of_lines lines))
 
   -- not all that it tells happened again over a database that was opened, for this; and that was
-  -- closed with what did and as it was marked, of which this is known
+  -- closed with what did, and with the mark of the lines before, of which this is known
   pub record WasUnbuilt (refused : Refused) : Type 0 where
     pub text : Option (List ℕ)
     pub journal : IsTextAt Opens bytes_of text
@@ -61,7 +65,7 @@ module _ {S F : Type 0} (g : Ghosts S) (Opens : Result F IoError → Type 0)
     pub left : Held S
     pub opened : IsUnlimited Opened was
     pub unbuilt : IsUnbuilt text g was left refused
-    pub closed : Closed left None
+    pub closed : Closed left (mark_before refused.line)
 
 -- of databases of which this is known, and of the one at a path, and of journals as they are opened and read
 module _ {S D C F : Type 0} (g : Ghosts S) (d : databases.Ghosts D (Held S) C) (path : List ℕ)
@@ -71,8 +75,7 @@ module _ {S D C F : Type 0} (g : Ghosts S) (d : databases.Ghosts D (Held S) C) (
   -- whatever came of that. Or all of it is, and the database couldn't be closed.
   abbrev pub IsUnrebuilt : CommandFault → Type 0
   IsUnrebuilt why =
-      IsNoText Opens why ⊎ ((unopened : Fault) × IsUnopened d path unopened
-      × (why ≡ fault.Store unopened))
+      IsNoText Opens why ⊎ IsUnopened d path why
       ⊎ ((refused : Refused) × WasUnbuilt g Opens bytes_of (d.opened path) (IsEnded d) refused
       × IsToldOf Gives (told_of refused) why)
       ⊎ ((built : Built) × WasRebuilt g Opens bytes_of (d.opened path) (IsEnded d) built

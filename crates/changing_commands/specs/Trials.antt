@@ -2,7 +2,7 @@
 use Rattle.std.specs.Prelude.{◌≡◌, ◌⊎◌, ℕ, List, [], ◌∷◌, codes, Option, Result, Ok, Err}
 use Rattle.sqlite.specs.Held.{Held}
 use Rattle.memory_database.specs.MemoryStore.{MemoryStore, over_memory}
-use Rattle.office_desk.specs.Meant.{meaning_over}
+use Rattle.review_office.specs.Meant.{meaning_over}
 use Rattle.streams.specs.declared.counted.Counted.{Counted}
 use Rattle.changing_commands.specs.Foundings.{founding_of, Described, IsFoundedAs}
 use Rattle.changing_commands.specs.Lines.{HasAnswered, HasStopped}
@@ -25,18 +25,23 @@ pub record WasTried (Done : (old new : Held MemoryStore) → Type 0) : Type 0 wh
   pub founded : IsFoundedAs over_memory trial_founding old
   pub done : Done old new
 
--- a trial desk ends so: where it fails, there was no memory for the office, or it stopped for this
-abbrev pub HasTried : (Done : (old new : Held MemoryStore) → Type 0)
+-- a trial desk ends so: where it fails, there was no memory for the office, and it didn't begin; or it
+-- stopped for this
+abbrev pub HasTried : (Unbegun : Type 0) → (Done : (old new : Held MemoryStore) → Type 0)
     → (Stops : CommandFault → (old new : Held MemoryStore) → Type 0)
     → Result (Unit {0}) CommandFault → Type 0
-HasTried Done Stops (Ok done) = WasTried Done
-HasTried Done Stops (Err why) = (why ≡ fault.NoMemory witness) ⊎ WasTried (Stops why)
+HasTried Unbegun Done Stops (Ok done) = WasTried Done
+HasTried Unbegun Done Stops (Err why) =
+    ((why ≡ fault.NoMemory witness) × Unbegun) ⊎ WasTried (Stops why)
 
--- of the lines that were to come, of those that are left, of an output, and of the want of memory that
--- it tells
-module _ {O : Type 0} (contents : O → Option (List ℕ)) (came left : Option (List ℕ))
-    (output wrote : Counted O) (want : Option Want) where
+-- of the lines that were to come, of those that are left, of an output, of standard error, and of the
+-- want of memory that is told
+module _ {O E : Type 0} (contents : O → Option (List ℕ)) (said_of : E → Option (List ℕ))
+    (came left : Option (List ℕ)) (output wrote : Counted O) (errors noted : Counted E)
+    (want : Option Want) where
   abbrev pub IsTrial : Result (Unit {0}) CommandFault → Type 0
   IsTrial result =
-      HasTried (HasAnswered contents (meaning_over over_memory) came output wrote want)
-      (HasStopped contents (meaning_over over_memory) came left output wrote want) result
+      HasTried (noted ≡ errors)
+      (HasAnswered contents said_of (meaning_over over_memory) came output wrote errors noted want)
+      (HasStopped contents said_of (meaning_over over_memory) came left output wrote errors noted want)
+      result

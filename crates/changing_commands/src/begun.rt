@@ -1,7 +1,7 @@
 //! A journal is begun.
 
 ghost use Rattle.std.specs.Prelude.{◌≡◌, ◌<◌, ◌^◌, [], ◌∷◌, true, IfErr, IfOk, IsTrue};
-ghost use Rattle.std.specs.Prelude.{string_bytes};
+ghost use Rattle.std.specs.Prelude.{OnOk, string_bytes};
 ghost use Rattle.sealed_log.specs.Faults.{IsLater};
 ghost use Rattle.sealed_log.specs.Log.{bodies_of};
 ghost use Rattle.sealed_log.specs.Sealed.{IsBody};
@@ -16,7 +16,7 @@ use cap_sets::Caps;
 use command_host::{CommandFault, Journals, fault_of};
 use journal::{Line, text};
 use office_policy::Event;
-use review_policy::Word;
+use office_words::Word;
 use sealed_log::{LogFault, Nothing, SealedLog};
 use sqlite_disk::Disk;
 use std::alloc::{AllocError, Global};
@@ -80,32 +80,31 @@ pub(crate) fn founding_line(alloc: Global, founding: &Founding) -> Result<String
     }
 }
 
-// Puts a body into a file in which nothing is sealed.
-fn put_first<D: Disk + Drop>(alloc: Global, file: D, body: &[u8]) -> Result<SealedLog<D>, LogFault>
+// Puts a body into a log in which nothing is sealed.
+fn put_first<D: Disk>(alloc: Global, log: &mut SealedLog<D>, body: &[u8]) -> Result<(), LogFault>
     requires { IsBody body.now }
-    ensures opened { IfOk result (λ log. log.is_open ≡ true) }
-    ensures clean { IfOk result (λ log. IsTrue (D.is_clean log.disk) → IsTrue (D.is_clean file)) }
-    ensures counts { IfOk result (λ log. IsLater D.Disk file log.disk) }
-    ensures has { IfOk result (λ log. IsTrue (D.is_clean log.disk)
-        → bodies_of D.Disk log ≡ body.now ∷ []) }
+    ensures opened { OnOk result (log.new.is_open ≡ true) }
+    ensures clean { IsTrue (D.is_clean log.new.disk) → IsTrue (D.is_clean log.old.disk) }
+    ensures counts { IsLater D.Disk log.old.disk log.new.disk }
+    ensures has { OnOk result (IsTrue (D.is_clean log.new.disk)
+        → bodies_of D.Disk log.new ≡ body.now ∷ []) }
 {
-    let mut log = SealedLog::new(file);
     let found = log.read(alloc, &mut Nothing)?;
     if found.at() > 0 {
         return Err(LogFault::Disk);
     }
     log.open_at(&found)?;
     log.put(alloc, body)?;
-    Ok(log)
+    Ok(())
 }
 
 /// Begins a journal at a path by the line of a founding, which a crash then leaves.
 ///
 /// # Errors
 ///
-/// `JournalThere` where something is at the path, and that is left as it is; `Journal` where no
-/// file can be made, `NoMemory` where there was none for that, and `Journal` where it can't be
-/// written: it is removed then.
+/// `JournalThere` where something is at the path, and `Busy` where another command has it open by
+/// then: that is left as it is. `Journal` where no file can be made, `NoMemory` where there was none
+/// for that, and `Journal` where it can't be written: it is removed then.
 pub(crate) fn begin_journal<J: Journals>(
     journals: &J,
     alloc: Global,
@@ -116,7 +115,7 @@ pub(crate) fn begin_journal<J: Journals>(
     requires { line.now ≡ line_of founding.now }
     ensures begun { IfOk result (IsBegunBy J.File.Disk (J.creates journals.now path.now)
         founding.now) }
-    ensures unbegun { IfErr result (IsUnbegun (J.creates journals.now path.now)
+    ensures unbegun { IfErr result (IsUnbegun J.File.Disk (J.creates journals.now path.now)
         (J.removes journals.now path.now)) }
 {
     read_forms(founding);
@@ -124,11 +123,12 @@ pub(crate) fn begin_journal<J: Journals>(
         Ok(file) => file,
         Err(why) => return Err(fault_of(why)),
     };
-    match put_first(alloc, file, line.as_bytes()) {
-        Ok(log) => Ok(log),
+    let mut log = SealedLog::new(file);
+    match put_first(alloc, &mut log, line.as_bytes()) {
+        Ok(()) => Ok(log),
         Err(_) => {
             // That it wasn't written is reported, and not whether it was removed.
-            let _ = journals.remove(path);
+            let _ = journals.remove(path, log.into_disk());
             Err(CommandFault::Journal)
         }
     }

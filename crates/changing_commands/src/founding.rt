@@ -5,11 +5,11 @@ ghost use Rattle.changing_commands.specs.Foundings.{founding_of, Gives};
 
 use cap_sets::Caps;
 use command_host::FoundingWordsFault;
-use review_policy::{Word, digest_from_hex};
+use office_words::{Word, digest_from_hex};
 use std::alloc::Global;
 
 /// Whom an office is founded with, and what it lists.
-#[derive(Debug, Drop)]
+#[derive(Drop)]
 pub struct Founding {
     /// The name of its first user, a registrar.
     pub name: Word,

@@ -20,8 +20,8 @@ use crate::kept::{Kept, close_kept};
 use command_host::{CommandFault, Databases, Host, Journals, Outside, close, open};
 use command_line::InitWords;
 use journal::Journaled;
-use office_desk::Office;
 use office_founding::FoundingFault;
+use review_office::Office;
 use sealed_log::SealedLog;
 use sqlite::{Alter, Connection};
 use sqlite_disk::Disk;
@@ -76,10 +76,7 @@ fn founded_at<S: Alter + Drop, D: Databases<Database = Connection<S>>>(
         (IsFoundedIn S.Store (D.opened path.now) (Ok founding.now)) }
     ensures refused { IfErr result (IsUnfoundedAs S.Store D.Databases path.now (Ok founding.now)) }
 {
-    let conn = match open(databases, path) {
-        Ok(conn) => conn,
-        Err(fault) => return Err(CommandFault::Store(fault)),
-    };
+    let conn = open(databases, path)?;
     match found_in(conn, founding) {
         Ok(office) => Ok(office),
         Err((fault, conn)) => {
@@ -90,22 +87,23 @@ fn founded_at<S: Alter + Drop, D: Databases<Database = Connection<S>>>(
     }
 }
 
-// The same, once the line of the founding stands in the file of a journal, which is let go where
+// The same, once the line of the founding stands in the file of a journal, which is handed back where
 // nothing is founded.
 fn founded_behind<S: Alter + Drop, D: Databases<Database = Connection<S>>, J: Disk + Drop>(
     databases: &D,
     path: &str,
     founding: &Founding,
     log: SealedLog<J>,
-) -> Result<Kept<S, J>, CommandFault>
+) -> Result<Kept<S, J>, (CommandFault, SealedLog<J>)>
     requires { HasLine J.Disk founding.now log }
     ensures founded { IfOk result (λ kept. (kept ≡ begun_with kept.office log)
         × IsFoundedIn S.Store (D.opened path.now) (Ok founding.now) kept.office) }
-    ensures refused { IfErr result (IsUnfoundedAs S.Store D.Databases path.now (Ok founding.now)) }
+    ensures refused { IfErr result (λ refusal. (refusal.1 ≡ log)
+        × IsUnfoundedAs S.Store D.Databases path.now (Ok founding.now) refusal.0) }
 {
     match founded_at(databases, path, founding) {
         Ok(office) => Ok(Journaled::new(office, log, false)),
-        Err(fault) => Err(fault),
+        Err(fault) => Err((fault, log)),
     }
 }
 
@@ -145,10 +143,10 @@ fn found_behind<S: Alter + Drop, D: Databases<Database = Connection<S>>, J: Jour
 {
     let log = begin_journal(journals, alloc, journal, founding, line)?;
     match founded_behind(databases, path, founding, log) {
-        Ok(kept) => close_kept(databases, alloc, kept, true),
-        Err(fault) => {
+        Ok(kept) => close_kept(databases, alloc, kept),
+        Err((fault, log)) => {
             // Why no office is founded is reported, and not whether the file was removed.
-            let _ = journals.remove(journal);
+            let _ = journals.remove(journal, log.into_disk());
             Err(fault)
         }
     }

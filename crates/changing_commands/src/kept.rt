@@ -1,15 +1,20 @@
 //! An office that is kept with a journal.
 
-ghost use Rattle.std.specs.Prelude.{◌≡◌, IfErr, IfOk, OnOk};
-ghost use Rattle.command_host.specs.Openings.{IsClosed, IsEnded};
-ghost use Rattle.changing_commands.specs.Journals.{IsClosedKept, IsKeptOffice, IsOfJournal};
-ghost use Rattle.changing_commands.specs.Journals.{IsOpenedWith, IsUnkept, mark_beside};
-ghost use Rattle.changing_commands.specs.Journals.{mark_of_lines};
+ghost use Rattle.std.specs.Prelude.{◌≡◌, ◌⊎◌, ℕ, IfErr, IfOk, IsTrue, Ok, OnOk};
+ghost use Rattle.sqlite.specs.Held.{state};
+ghost use Rattle.office_store.specs.Shown.{IsIdle};
+ghost use Rattle.command_host.specs.Marks.{has_journal};
+ghost use Rattle.command_host.specs.Openings.{IsClosed, IsEnded, IsWithoutJournal};
+ghost use Rattle.changing_commands.specs.Journals.{IsClosedKept, IsKeptOffice, IsKeptOver};
+ghost use Rattle.changing_commands.specs.Journals.{IsOfJournal, IsOpenedWith, IsUnkept};
+ghost use Rattle.changing_commands.specs.Journals.{IsUnkeptOver, mark_beside};
 
-use command_host::{CommandFault, Databases, Journals, close, fault_of, office_at};
+use command_host::{
+    CommandFault, Databases, Journals, close, fault_of, kept_at, mark_of_lines, office_over,
+};
 use journal::{Journal, Journaled};
 use journal_office::reopen;
-use office_desk::Office;
+use review_office::Office;
 use sealed_log::SealedLog;
 use sqlite::{Alter, Connection};
 use sqlite_disk::Disk;
@@ -42,27 +47,28 @@ fn opened_with<S: Alter + Drop, J: Journals>(
     }
 }
 
-/// The office at a path, whose database has this mark, opened again with its journal at another.
+/// The office over a database with this mark, opened again with its journal at a path.
 ///
 /// # Errors
 ///
-/// As of [`office_at`]; and `Journal`, `JournalBusy` or `NoMemory` where the file of the journal can't
+/// As of [`office_over`]; and `Journal`, `Busy` or `NoMemory` where the file of the journal can't
 /// be opened, `Reopening` where the two can't be opened again. Then the office is closed; and where that fails
 /// too, the first fault is told.
-pub(crate) fn kept_office_at<S: Alter + Drop, D: Databases<Database = Connection<S>>, J: Journals>(
+pub(crate) fn kept_over<S: Alter + Drop, D: Databases<Database = Connection<S>>, J: Journals>(
     databases: &D,
     journals: &J,
     alloc: Global,
-    path: &str,
+    conn: Connection<S>,
     journal: &str,
     mark: u32,
 ) -> Result<Kept<S, J::File>, CommandFault>
-    ensures opened { IfOk result (IsKeptOffice S.Store J.File.Disk
-        (J.opens journals.now journal.now) (D.opened path.now) mark) }
-    ensures fault { IfErr result (IsUnkept S.Store J.File.Disk
-        (J.opens journals.now journal.now) D.Databases path.now mark) }
+    requires { IsIdle (state S.Store conn) }
+    ensures opened { IfOk result (IsKeptOver S.Store J.File.Disk
+        (J.opens journals.now journal.now) conn mark) }
+    ensures fault { IfErr result (IsUnkeptOver S.Store J.File.Disk
+        (J.opens journals.now journal.now) D.Databases conn mark) }
 {
-    let office = office_at(databases, path)?;
+    let office = office_over(databases, conn)?;
     match opened_with(journals, alloc, office, journal, mark) {
         Ok(kept) => Ok(kept),
         Err((fault, office)) => {
@@ -73,27 +79,44 @@ pub(crate) fn kept_office_at<S: Alter + Drop, D: Databases<Database = Connection
     }
 }
 
-/// The mark of a database whose journal has so many lines.
-pub(crate) fn mark_of_lines(lines: u64) -> u32
-    ensures { result ≡ mark_of_lines lines }
+/// The office at a path, opened again with its journal at another, where the mark of its database is
+/// of one.
+///
+/// # Errors
+///
+/// As of [`kept_at`] and [`kept_over`].
+pub(crate) fn kept_office_at<S: Alter + Drop, D: Databases<Database = Connection<S>>, J: Journals>(
+    databases: &D,
+    journals: &J,
+    alloc: Global,
+    path: &str,
+    journal: &str,
+) -> Result<Kept<S, J::File>, CommandFault>
+    ensures opened { IfOk result (λ kept. (mark : ℕ) × D.marked path.now (Ok mark)
+        × IsTrue (has_journal mark) × IsKeptOffice S.Store J.File.Disk
+        (J.opens journals.now journal.now) (D.opened path.now) mark kept) }
+    ensures fault { IfErr result (λ why. IsWithoutJournal D.Databases path.now why
+        ⊎ ((mark : ℕ) × D.marked path.now (Ok mark) × IsTrue (has_journal mark)
+        × IsUnkept S.Store J.File.Disk
+        (J.opens journals.now journal.now) D.Databases path.now mark why)) }
 {
-    lines.min(u32::MAX as u64) as u32
+    let (conn, mark) = kept_at(databases, path)?;
+    kept_over(databases, journals, alloc, conn, journal, mark)
 }
 
-// The mark beside a journal: how many lines that has, where it is open and the database is marked.
-fn mark_beside<J: Disk>(log: &SealedLog<J>, is_marked: bool) -> Option<u32>
-    ensures { result ≡ mark_beside is_marked log.now }
+// The mark beside a journal: how many lines that has, where it is open.
+fn mark_beside<J: Disk>(log: &SealedLog<J>) -> Option<u32>
+    ensures { result ≡ mark_beside log.now }
 {
-    if is_marked && log.takes_lines() {
+    if log.takes_lines() {
         Some(mark_of_lines(log.lines()))
     } else {
         None
     }
 }
 
-/// Closes an office with a journal, in which it is then said that its last event was carried out. A
-/// database that is marked gets the mark of that journal. The file of the journal is let go: all of it
-/// is written.
+/// Closes an office with a journal, in which it is then said that its last event was carried out. The
+/// database gets the mark of that journal. The file of the journal is let go: all of it is written.
 ///
 /// # Errors
 ///
@@ -102,17 +125,15 @@ pub(crate) fn close_kept<S: Alter, J: Disk + Drop, D: Databases<Database = Conne
     databases: &D,
     alloc: Global,
     kept: Kept<S, J>,
-    is_marked: bool,
 ) -> Result<(), CommandFault>
-    ensures closed { OnOk result
-        (IsClosedKept S.Store J.Disk is_marked (IsClosed D.closed) kept) }
-    ensures ended { IsClosedKept S.Store J.Disk is_marked (IsEnded D.Databases) kept }
+    ensures closed { OnOk result (IsClosedKept S.Store J.Disk (IsClosed D.closed) kept) }
+    ensures ended { IsClosedKept S.Store J.Disk (IsEnded D.Databases) kept }
     ensures fault { IfErr result (λ fault. fault ≡ CommandFault.Close) }
 {
     let mut kept = kept;
     // What the journal doesn't say so is told by the tables.
     let _ = kept.settle(alloc);
     let (office, log) = kept.into_parts();
-    let mark = mark_beside(&log, is_marked);
+    let mark = mark_beside(&log);
     close(databases, office, mark)
 }

@@ -1,12 +1,12 @@
 //! The desk of an office over the streams of the program.
 
 ghost use Rattle.std.specs.Prelude.{◌≡◌, Err, IfErr, None, OnOk};
-ghost use Rattle.desk.specs.Stands.{HasHandled};
+ghost use Rattle.desk_lines.specs.Stands.{HasNoted};
 ghost use Rattle.changing_commands.specs.Lines.{HasAnswered, HasStopped};
 ghost use Rattle.streams.specs.CallsLeft.{HasCallsLeft, HasFaultsLeft};
 
 use command_host::CommandFault;
-use desk::desk;
+use desk_lines::desk;
 use no_memory::NoMemory;
 use office_policy::Handler;
 use std::alloc::Global;
@@ -14,7 +14,7 @@ use std::io::{Read, Write};
 use streams::Counted;
 
 /// How the desk of a command ended.
-#[derive(Debug, Drop)]
+#[derive(Drop)]
 pub struct DeskEnded {
     /// All was done, or why not.
     pub ended: Result<(), CommandFault>,
@@ -34,24 +34,25 @@ impl DeskEnded {
     }
 }
 
-/// Answers each line of a reader.
-pub(crate) fn answer_lines<H: Handler, R: Read, W: Write>(
+/// Answers each line of a reader, and notes those that are no requests.
+pub(crate) fn answer_lines<H: Handler, R: Read, W: Write, E: Write>(
     office: &mut H,
     alloc: Global,
     input: &mut Counted<R>,
     output: &mut Counted<W>,
+    errors: &mut Counted<E>,
 ) -> DeskEnded
     requires reads { HasCallsLeft input.old }
     requires writes { HasFaultsLeft output.old }
-    ensures handled { HasHandled H.meaning office.old office.new }
-    ensures answered { OnOk result.ended (HasAnswered W.contents H.meaning
-        (R.remaining input.old.inner) output.old output.new result.witness
+    ensures handled { HasNoted H.meaning E.contents errors.old errors.new office.old office.new }
+    ensures answered { OnOk result.ended (HasAnswered W.contents E.contents H.meaning
+        (R.remaining input.old.inner) output.old output.new errors.old errors.new result.witness
         office.old office.new) }
-    ensures stopped { IfErr result.ended (λ why. HasStopped W.contents H.meaning
-        (R.remaining input.old.inner) (R.remaining input.new.inner) output.old output.new
-        result.witness why office.old office.new) }
+    ensures stopped { IfErr result.ended (λ why. HasStopped W.contents E.contents
+        H.meaning (R.remaining input.old.inner) (R.remaining input.new.inner)
+        output.old output.new errors.old errors.new result.witness why office.old office.new) }
 {
-    let ended = desk(office, alloc, input, output);
+    let ended = desk(office, alloc, input, output, errors);
     let witness = ended.witness;
     match ended.answered {
         Ok(()) => DeskEnded {

@@ -1,11 +1,13 @@
 //! `migrate`: an office of schema 1 in a file is made one of schema 2.
 
 ghost use Rattle.std.specs.Prelude.{◌≡◌, IfErr, OnOk};
+ghost use Rattle.sqlite.specs.Held.{state};
+ghost use Rattle.office_store.specs.Shown.{IsIdle};
 ghost use Rattle.command_host.specs.Openings.{IsClosed, IsEnded};
 ghost use Rattle.changing_commands.specs.Migrations.{FailsToMigrateAt, HasMigrated};
-ghost use Rattle.changing_commands.specs.Migrations.{IsUnmigrated, WasMigrated};
+ghost use Rattle.changing_commands.specs.Migrations.{IsMigratedFrom, IsUnmigratedFrom};
 
-use command_host::{CommandFault, Databases, database_at, look_for_mark};
+use command_host::{CommandFault, Databases, PARTED, database_at, unmarked_at};
 use office_founding::migrate;
 use sqlite::{Alter, Connection};
 
@@ -25,21 +27,18 @@ fn close_migrated<S: Alter + Drop, D: Databases<Database = Connection<S>>>(
     }
 }
 
-// Makes the office of schema 1 at a path one of schema 2, and closes it, with a mark where one is
-// given. Where that was refused, it is closed as it was marked.
+// Makes the office of schema 1 in a database that was opened one of schema 2, and closes it, with a
+// mark where one is given. Where that was refused, it is closed as it was marked.
 fn migrate_with<S: Alter + Drop, D: Databases<Database = Connection<S>>>(
     databases: &D,
-    path: &str,
+    conn: Connection<S>,
     mark: Option<u32>,
 ) -> Result<(), CommandFault>
-    ensures migrated { OnOk result
-        (WasMigrated S.Store (D.opened path.now) mark (IsClosed D.closed)) }
-    ensures failed { IfErr result (IsUnmigrated S.Store D.Databases path.now mark) }
+    requires { IsIdle (state S.Store conn) }
+    ensures migrated { OnOk result (IsMigratedFrom S.Store mark (IsClosed D.closed) conn) }
+    ensures failed { IfErr result (IsUnmigratedFrom S.Store D.Databases mark conn) }
 {
-    let mut conn = match database_at(databases, path) {
-        Ok(conn) => conn,
-        Err(fault) => return Err(CommandFault::Store(fault)),
-    };
+    let mut conn = conn;
     match migrate(&mut conn) {
         Ok(()) => close_migrated(databases, conn, mark),
         Err(fault) => {
@@ -65,9 +64,10 @@ pub fn migrate_at<S: Alter + Drop, D: Databases<Database = Connection<S>>>(
     ensures failed { IfErr result (FailsToMigrateAt S.Store D.Databases path.now
         without_journal) }
 {
-    if without_journal {
-        return migrate_with(databases, path, Some(0));
+    if !without_journal {
+        let conn = unmarked_at(databases, path)?;
+        return migrate_with(databases, conn, None);
     }
-    look_for_mark(databases, path)?;
-    migrate_with(databases, path, None)
+    let conn = database_at(databases, path)?;
+    migrate_with(databases, conn, Some(PARTED))
 }

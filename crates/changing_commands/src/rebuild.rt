@@ -3,11 +3,11 @@
 ghost use Rattle.std.specs.Prelude.{◌≡◌, IfErr, IfOk};
 ghost use Rattle.command_host.specs.Openings.{IsClosed};
 ghost use Rattle.changing_commands.specs.Rebuildings.{FailsToRebuild, HasRebuilt, IsUnrebuilt};
-ghost use Rattle.changing_commands.specs.Rebuildings.{WasRebuilt, told_of};
+ghost use Rattle.changing_commands.specs.Rebuildings.{WasRebuilt, mark_before, told_of};
 
-use crate::kept::mark_of_lines;
 use command_host::{
-    CommandFault, Databases, PassFiles, close, open, print_bytes, seal_line, text_at, told_of_text,
+    CommandFault, Databases, PassFiles, close, mark_of_lines, open, print_bytes, seal_line,
+    text_at, told_of_text,
 };
 use journal_faults::{Refused, Why};
 use journal_office::{Rebuilt, rebuild_as_read};
@@ -18,7 +18,7 @@ use std::io::Write;
 use streams::Counted;
 
 /// What an office has that was built anew.
-#[derive(Clone, Copy, Debug)]
+#[derive(Clone, Copy)]
 pub struct Built {
     /// How many events, up to the greatest u64.
     pub events: u64,
@@ -33,6 +33,17 @@ fn fault_of(refused: Refused) -> CommandFault
     match refused.why {
         Why::Unfounded(fault) => CommandFault::Founding(fault),
         _ => CommandFault::Unbuilt(refused),
+    }
+}
+
+// The mark of a database in which all before a line happened again.
+fn mark_before(line: u64) -> Option<u32>
+    ensures { result ≡ mark_before line }
+{
+    if line > 1 {
+        Some(mark_of_lines(line - 1))
+    } else {
+        None
     }
 }
 
@@ -51,10 +62,7 @@ fn rebuild_at<F: PassFiles, S: Alter + Drop, D: Databases<Database = Connection<
         (F.opens files.now journal.now) F.gives F.File.remaining) }
 {
     let mut text = text_at(files, alloc, journal)?;
-    let conn = match open(databases, database) {
-        Ok(conn) => conn,
-        Err(fault) => return Err(CommandFault::Store(fault)),
-    };
+    let conn = open(databases, database)?;
     match rebuild_as_read(alloc, conn, &mut text) {
         Ok(rebuilt) => {
             let Rebuilt {
@@ -69,7 +77,7 @@ fn rebuild_at<F: PassFiles, S: Alter + Drop, D: Databases<Database = Connection<
         }
         Err((refused, conn)) => {
             // Why it isn't built on is reported, and not whether this closed.
-            let _ = databases.close(conn, None);
+            let _ = databases.close(conn, mark_before(refused.line));
             Err(told_of_text(&text, fault_of(refused)))
         }
     }
@@ -81,8 +89,8 @@ fn rebuild_at<F: PassFiles, S: Alter + Drop, D: Databases<Database = Connection<
 ///
 /// # Errors
 ///
-/// `Open` where the journal can't be opened, and no database is made then; `Store` where none can be
-/// opened; `Founding` why no office is founded in it, and it is left as it is; `Unbuilt` the first line
+/// `Open` where the journal can't be opened, and no database is made then; `Store` or `Busy` where none
+/// can be opened; `Founding` why no office is founded in it, and it is left as it is; `Unbuilt` the first line
 /// by which it can't go on. What happened before it is left then, as `rebuild_as_read` has it, and it
 /// isn't told whether that closed. `Close` where all was done, and that doesn't close; `NoMemory` or
 /// `Write` where it did, and the line wasn't printed.

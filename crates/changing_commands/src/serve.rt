@@ -95,12 +95,14 @@ struct Exchanges<'w, N> {
 
 // `PassClock` and `PassNet` are above `Network`, and named since a ghost member sees its own bounds
 // alone.
-impl<N: Network + PassClock + PassNet, O: Write> Serves<(), Counted<O>> for Exchanges<'_, N> {
+impl<N: Network + PassClock + PassNet, O: Write> Serves<(), Counted<O>, ()> for Exchanges<'_, N> {
     ghost can_serve = { λ _ _. ⊤ };
 
-    ghost comes = { λ old new came left output wrote X m ended before after.
+    ghost comes = { λ old new came left output wrote errors noted X m ended before after.
         IsServing N.shows N.binds N.tells O.contents m old.words.now before after output wrote
         ended };
+
+    ghost notes = { λ errors noted. ⊤ };
 
     fn serve<H: Handler>(
         &mut self,
@@ -108,6 +110,7 @@ impl<N: Network + PassClock + PassNet, O: Write> Serves<(), Counted<O>> for Exch
         alloc: Global,
         _input: &mut (),
         output: &mut Counted<O>,
+        _errors: &mut (),
     ) -> Result<(), CommandFault> {
         serve_bound(self.network, office, alloc, self.words, output)
     }
@@ -135,5 +138,6 @@ pub fn serve_http<H: Host, O: Write>(
         &mut exchanges,
         &mut (),
         output,
+        &mut (),
     )
 }

@@ -1,25 +1,31 @@
 //! An office in a file is served.
 
 ghost use Rattle.command_host.specs.Outside.{known};
-ghost use Rattle.changing_commands.specs.Served.{Comes, IsServedAlone, IsServedKept};
-ghost use Rattle.changing_commands.specs.Served.{IsServedNamed, IsServedUnnamed};
+ghost use Rattle.changing_commands.specs.Served.{Comes, IsServedKept, IsServedNamed, MayNote};
+ghost use Rattle.changing_commands.specs.Served.{IsServedOffice, IsServedUnnamed, IsServedWithout};
 
 use crate::kept::{close_kept, kept_office_at};
+use crate::marking::part;
 use command_host::{
-    CommandFault, Host, Outside, close, first_fault, look_for_mark, mark_at, office_at,
+    CommandFault, Host, Outside, close, first_fault, office_at, office_over, unmarked_at,
 };
 use command_line::JournalWords;
 use office_policy::Handler;
+use review_office::Office;
 use std::alloc::Global;
 
-/// What serves an office, over an input and an output.
-pub(crate) trait Serves<I, O> {
+/// What serves an office, over an input, an output, and what it notes.
+pub(crate) trait Serves<I, O, E> {
     /// Over which input and output it can.
     ghost can_serve: { I → O → Type 0 };
 
     /// What comes of that, by what it was and is, what was to come and is left of the input, and the
-    /// output before and after.
-    ghost comes: { (old new : Self) → (came left : I) → (output wrote : O) → Comes };
+    /// output and the notes before and after.
+    ghost comes: { (old new : Self) → (came left : I) → (output wrote : O) → (errors noted : E)
+        → Comes };
+
+    /// What may be noted then.
+    ghost notes: { (errors noted : E) → Type 0 };
 
     /// Serves an office.
     fn serve<H: Handler>(
@@ -28,53 +34,81 @@ pub(crate) trait Serves<I, O> {
         alloc: Global,
         input: &mut I,
         output: &mut O,
+        errors: &mut E,
     ) -> Result<(), CommandFault>
         requires { can_serve input.old output.old }
-        ensures { comes self.old self.new input.old input.new output.old output.new H H.meaning
-            result office.old office.new };
+        ensures served { comes self.old self.new input.old input.new output.old output.new
+            errors.old errors.new H H.meaning result office.old office.new }
+        ensures noted { notes errors.old errors.new };
 }
 
-// Serves the office at a path without a journal, and closes it. The database is closed with a mark,
-// where one is given.
-fn serve_alone<H: Host, I, O, S: Serves<I, O>>(
+// Serves an office that was opened at a path, and closes it as it was marked.
+fn serve_office<H: Host, I, O, E, S: Serves<I, O, E>>(
     host: &Outside<'_, H>,
     alloc: Global,
-    path: &str,
-    mark: Option<u32>,
+    office: Office<H::Tables>,
     server: &mut S,
     input: &mut I,
     output: &mut O,
+    errors: &mut E,
 ) -> Result<(), CommandFault>
     requires { S.can_serve input.old output.old }
-    ensures { IsServedAlone (known host.now)
-        (S.comes server.old server.new input.old input.new output.old output.new) path.now mark
-        result }
+    ensures served { IsServedOffice (known host.now)
+        (S.comes server.old server.new input.old input.new output.old output.new
+        errors.old errors.new) office result }
+    ensures noted { S.notes errors.old errors.new }
 {
-    let mut office = office_at(host.databases, path)?;
-    let served = server.serve(&mut office, alloc, input, output);
-    let closed = close(host.databases, office, mark);
+    let mut office = office;
+    let served = server.serve(&mut office, alloc, input, output, errors);
+    let closed = close(host.databases, office, None);
     first_fault(served, closed)
 }
 
-// The same where the office has no journal.
-fn serve_unnamed<H: Host, I, O, S: Serves<I, O>>(
+// Serves the office at a path where that has no journal.
+fn serve_unnamed<H: Host, I, O, E, S: Serves<I, O, E>>(
     host: &Outside<'_, H>,
     alloc: Global,
     path: &str,
     server: &mut S,
     input: &mut I,
     output: &mut O,
+    errors: &mut E,
 ) -> Result<(), CommandFault>
     requires { S.can_serve input.old output.old }
-    ensures { IsServedUnnamed (known host.now)
-        (S.comes server.old server.new input.old input.new output.old output.new) path.now result }
+    ensures served { IsServedUnnamed (known host.now)
+        (S.comes server.old server.new input.old input.new output.old output.new
+        errors.old errors.new) path.now result }
+    ensures noted { MayNote S.notes errors.old errors.new }
 {
-    look_for_mark(host.databases, path)?;
-    serve_alone(host, alloc, path, None, server, input, output)
+    let conn = unmarked_at(host.databases, path)?;
+    let office = office_over(host.databases, conn)?;
+    serve_office(host, alloc, office, server, input, output, errors)
+}
+
+// The same where the office goes on without its journal. That is marked before anything is answered,
+// so that no journal which lacks what happens then is taken for the office's own.
+fn serve_without<H: Host, I, O, E, S: Serves<I, O, E>>(
+    host: &Outside<'_, H>,
+    alloc: Global,
+    path: &str,
+    server: &mut S,
+    input: &mut I,
+    output: &mut O,
+    errors: &mut E,
+) -> Result<(), CommandFault>
+    requires { S.can_serve input.old output.old }
+    ensures served { IsServedWithout (known host.now)
+        (S.comes server.old server.new input.old input.new output.old output.new
+        errors.old errors.new) path.now result }
+    ensures noted { MayNote S.notes errors.old errors.new }
+{
+    part(host, path)?;
+    let office = office_at(host.databases, path)?;
+    serve_office(host, alloc, office, server, input, output, errors)
 }
 
 // The same with the journal at this path.
-fn serve_kept<H: Host, I, O, S: Serves<I, O>>(
+fn serve_kept<H: Host, I, O, E, S: Serves<I, O, E>>(
     host: &Outside<'_, H>,
     alloc: Global,
     path: &str,
@@ -82,23 +116,24 @@ fn serve_kept<H: Host, I, O, S: Serves<I, O>>(
     server: &mut S,
     input: &mut I,
     output: &mut O,
+    errors: &mut E,
 ) -> Result<(), CommandFault>
     requires { S.can_serve input.old output.old }
-    ensures { IsServedKept (known host.now)
-        (S.comes server.old server.new input.old input.new output.old output.new) path.now
-        journal.now result }
+    ensures served { IsServedKept (known host.now)
+        (S.comes server.old server.new input.old input.new output.old output.new
+        errors.old errors.new) path.now journal.now result }
+    ensures noted { MayNote S.notes errors.old errors.new }
 {
-    let mark = mark_at(host.databases, path)?;
-    let mut kept = kept_office_at(host.databases, host.journals, alloc, path, journal, mark)?;
-    let served = server.serve(&mut kept, alloc, input, output);
-    let closed = close_kept(host.databases, alloc, kept, mark != 0);
+    let mut kept = kept_office_at(host.databases, host.journals, alloc, path, journal)?;
+    let served = server.serve(&mut kept, alloc, input, output, errors);
+    let closed = close_kept(host.databases, alloc, kept);
     first_fault(served, closed)
 }
 
 /// Serves the office at a path, with its journal at another where the words name one, and closes it,
 /// also where that failed. Where closing fails too, the first fault is told. An office that has a
 /// journal goes on without only where that is said.
-pub(crate) fn serve_named<H: Host, I, O, S: Serves<I, O>>(
+pub(crate) fn serve_named<H: Host, I, O, E, S: Serves<I, O, E>>(
     host: &Outside<'_, H>,
     alloc: Global,
     path: &str,
@@ -106,15 +141,19 @@ pub(crate) fn serve_named<H: Host, I, O, S: Serves<I, O>>(
     server: &mut S,
     input: &mut I,
     output: &mut O,
+    errors: &mut E,
 ) -> Result<(), CommandFault>
     requires { S.can_serve input.old output.old }
-    ensures { IsServedNamed (known host.now)
-        (S.comes server.old server.new input.old input.new output.old output.new) path.now
-        journal.entry result }
+    ensures served { IsServedNamed (known host.now)
+        (S.comes server.old server.new input.old input.new output.old output.new
+        errors.old errors.new) path.now journal.entry result }
+    ensures noted { MayNote S.notes errors.old errors.new }
 {
     match journal {
-        JournalWords::Named(file) => serve_kept(host, alloc, path, file, server, input, output),
-        JournalWords::Without => serve_alone(host, alloc, path, Some(0), server, input, output),
-        JournalWords::Unnamed => serve_unnamed(host, alloc, path, server, input, output),
+        JournalWords::Named(file) => serve_kept(
+            host, alloc, path, file, server, input, output, errors,
+        ),
+        JournalWords::Without => serve_without(host, alloc, path, server, input, output, errors),
+        JournalWords::Unnamed => serve_unnamed(host, alloc, path, server, input, output, errors),
     }
 }

@@ -2,11 +2,13 @@
 
 ghost use Rattle.std.specs.Prelude.{◌≡◌, IfErr, IfOk, OnOk};
 ghost use Rattle.sqlite.specs.Held.{Held, state};
+ghost use Rattle.desk_lines.specs.Notes.{AreNotes};
 ghost use Rattle.memory_database.specs.MemoryStore.{over_memory};
 ghost use Rattle.office_store.specs.Shown.{IsIdle};
-ghost use Rattle.office_desk.specs.Meant.{meaning_over};
+ghost use Rattle.review_office.specs.Meant.{meaning_over};
 ghost use Rattle.changing_commands.specs.Foundings.{IsFoundedAs, IsFoundedBy};
 ghost use Rattle.changing_commands.specs.Lines.{HasAnswered, HasStopped};
+ghost use Rattle.changing_commands.specs.Served.{MayNote};
 ghost use Rattle.changing_commands.specs.Trials.{trial_founding, IsTrial};
 ghost use Rattle.streams.specs.CallsLeft.{HasCallsLeft, HasFaultsLeft};
 ghost use Rattle.no_memory.specs.Witness.{witness};
@@ -16,8 +18,8 @@ use crate::init::found_in;
 use crate::lines::{DeskEnded, answer_lines};
 use command_host::{CommandFault, FoundingWordsFault};
 use memory_database::{MemoryStore, open_in_memory, want_of_memory};
-use office_desk::Office;
 use office_founding::FoundingFault;
+use review_office::Office;
 use sqlite::{Alter, Connection};
 use std::alloc::Global;
 use std::io::{Read, Write};
@@ -71,37 +73,42 @@ fn trial_office(alloc: Global) -> Result<Office<MemoryStore>, CommandFault>
 }
 
 // Answers the lines of a reader at an office, which is let go of.
-fn answer_over<S: Alter + Drop, R: Read, W: Write>(
+fn answer_over<S: Alter + Drop, R: Read, W: Write, E: Write>(
     mut office: Office<S>,
     alloc: Global,
     input: &mut Counted<R>,
     output: &mut Counted<W>,
+    errors: &mut Counted<E>,
 ) -> DeskEnded
     requires reads { HasCallsLeft input.old }
     requires writes { HasFaultsLeft output.old }
-    ensures answered { OnOk result.ended ((left : Held S) × HasAnswered W.contents
-        (meaning_over S.Store) (R.remaining input.old.inner) output.old output.new result.witness
-        office left) }
-    ensures stopped { IfErr result.ended (λ why. (left : Held S) × HasStopped W.contents
+    ensures answered { OnOk result.ended ((left : Held S) × HasAnswered W.contents E.contents
+        (meaning_over S.Store) (R.remaining input.old.inner) output.old output.new
+        errors.old errors.new result.witness office left) }
+    ensures stopped { IfErr result.ended (λ why. (left : Held S) × HasStopped W.contents E.contents
         (meaning_over S.Store) (R.remaining input.old.inner) (R.remaining input.new.inner)
-        output.old output.new result.witness why office left) }
+        output.old output.new errors.old errors.new result.witness why office left) }
+    ensures noted { AreNotes E.contents errors.old errors.new }
 {
-    answer_lines(&mut office, alloc, input, output)
+    answer_lines(&mut office, alloc, input, output, errors)
 }
 
-/// Answers the lines of a reader at the trial desk.
-pub fn serve_trial<R: Read, W: Write>(
+/// Answers the lines of a reader at the trial desk, and notes those that are no requests.
+pub fn serve_trial<R: Read, W: Write, E: Write>(
     alloc: Global,
     input: &mut Counted<R>,
     output: &mut Counted<W>,
+    errors: &mut Counted<E>,
 ) -> DeskEnded
     requires reads { HasCallsLeft input.old }
     requires writes { HasFaultsLeft output.old }
-    ensures { IsTrial W.contents (R.remaining input.old.inner) (R.remaining input.new.inner)
-        output.old output.new result.witness result.ended }
+    ensures tried { IsTrial W.contents E.contents
+        (R.remaining input.old.inner) (R.remaining input.new.inner)
+        output.old output.new errors.old errors.new result.witness result.ended }
+    ensures noted { MayNote (AreNotes E.contents) errors.old errors.new }
 {
     match trial_office(alloc) {
-        Ok(office) => answer_over(office, alloc, input, output),
+        Ok(office) => answer_over(office, alloc, input, output, errors),
         Err(fault) => DeskEnded::unbegun(fault),
     }
 }

@@ -1,13 +1,13 @@
 -- The words of why a command is refused or failed.
 use Rattle.std.specs.Prelude.{ℕ, List, ◌++◌, codes}
-use Rattle.desk.specs.Faults.{desk_fault_word}
+use Rattle.desk_lines.specs.Faults.{desk_fault_word}
 use Rattle.journal_faults.specs.DifferenceTexts.{difference_text}
 use Rattle.journal_faults.specs.FaultTexts.{no_evidence_text, not_reopened_text, refused_text, unwritten_text}
 use Rattle.journal_faults.specs.declared.unverified.Unverified.{Unverified}
 use Rattle.journal_faults.specs.declared.unverified.Unverified.TheVariants as unverified
 use Rattle.office_founding.specs.Faults.{founding_fault_word, migration_fault_word}
 use Rattle.office_founding.specs.Faults.{opening_fault_word}
-use Rattle.review_policy.specs.WordTables.{fault_word}
+use Rattle.office_words.specs.WordTables.{fault_word}
 use Rattle.profile_commands.specs.declared.execution.ExecutionFault.{ExecutionFault}
 use Rattle.profile_commands.specs.declared.execution.ExecutionFault.TheVariants as execution
 use Rattle.profile_commands.specs.FaultTexts.{compared_fault_text, file_fault_text}
@@ -47,9 +47,10 @@ command_fault_text (fault.Store why) = fault_word why
 command_fault_text (fault.Opening why) = opening_fault_word why
 command_fault_text fault.Close = codes "disk"
 command_fault_text fault.JournalThere = codes "journal-there"
-command_fault_text fault.JournalBusy = codes "busy"
+command_fault_text fault.Busy = codes "busy"
 command_fault_text fault.Journal = codes "journal"
 command_fault_text fault.JournalUnnamed = codes "journal"
+command_fault_text fault.JournalParted = codes "journal"
 command_fault_text (fault.Reopening why) = not_reopened_text why
 command_fault_text fault.SameFile = codes "same-file"
 command_fault_text (fault.Unverified why) = unverified_text why

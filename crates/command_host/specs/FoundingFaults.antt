@@ -1,7 +1,7 @@
 -- Why the words of `init` describe no founding.
 use Rattle.std.specs.Prelude.{◌≡◌}
-use Rattle.review_policy.specs.declared.word.WordFault.{WordFault}
-use Rattle.review_policy.specs.declared.word.WordFault.TheVariants as words
+use Rattle.office_words.specs.declared.word.WordFault.{WordFault}
+use Rattle.office_words.specs.declared.word.WordFault.TheVariants as words
 use Rattle.command_host.specs.declared.founding_fault.FoundingWordsFault.{FoundingWordsFault}
 use Rattle.command_host.specs.declared.founding_fault.FoundingWordsFault.TheVariants as refusal
 

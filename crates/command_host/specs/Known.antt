@@ -29,7 +29,7 @@ pub record Known (S D F L N : Type 0) : Type 1 where
   pub log : DiskGhosts L
   pub creates : List ℕ → Result L NoFile → Type 0
   pub finds : List ℕ → Result L NoFile → Type 0
-  pub removes : List ℕ → Result ⊤ Error → Type 0
+  pub removes : List ℕ → L → Result ⊤ Error → Type 0
   pub shows : N → Result Duration Error → Type 0
   pub binds : N → SocketAddr → Result TcpListener Error → Type 0
   pub tells : N → TcpListener → Result SocketAddr Error → Type 0

@@ -6,6 +6,6 @@ use Rattle.command_host.specs.declared.no_file.NoFile.TheVariants as files
 
 abbrev pub file_fault : NoFile → CommandFault
 file_fault files.There = fault.JournalThere
-file_fault files.Busy = fault.JournalBusy
+file_fault files.Busy = fault.Busy
 file_fault (files.NoMemory refused) = fault.NoMemory refused
 file_fault files.Failed = fault.Journal

@@ -11,17 +11,18 @@ use Rattle.office_rows.specs.Faults.{fault_of_error}
 use Rattle.office_founding.specs.Form.{has_old_tables, TellsOpening}
 use Rattle.office_founding.specs.declared.fault.OpeningFault.{OpeningFault}
 use Rattle.office_founding.specs.declared.fault.OpeningFault.TheVariants as opening
-use Rattle.office_desk.specs.Opened.{IsOver}
+use Rattle.review_office.specs.Opened.{IsOver}
 use Rattle.command_host.specs.declared.fault.CommandFault.{CommandFault}
 use Rattle.command_host.specs.declared.fault.CommandFault.TheVariants as fault
-use Rattle.review_policy.specs.declared.fault.Fault.{Fault}
-use Rattle.review_policy.specs.declared.fault.Fault.TheVariants.{Disk, NotAnOffice}
+use Rattle.office_words.specs.declared.fault.Fault.TheVariants.{Disk, NotAnOffice}
+use Rattle.command_host.specs.Marks.{has_journal}
 use Rattle.command_host.specs.declared.databases.Databases as databases
 
--- what is no database is no office
-abbrev pub fault_of_opening : Error → Fault
-fault_of_opening (error.SqliteFailure code.NotADatabase) = NotAnOffice
-fault_of_opening e = fault_of_error e
+-- what is no database is no office, and one that another command has open is busy
+abbrev pub fault_of_opening : Error → CommandFault
+fault_of_opening (error.SqliteFailure code.NotADatabase) = fault.Store NotAnOffice
+fault_of_opening (error.SqliteFailure code.DatabaseBusy) = fault.Busy
+fault_of_opening e = fault.Store (fault_of_error e)
 
 -- a database was opened, of which this is known, and then its limit on steps was taken away
 abbrev pub IsUnlimited : {S : Type 0} → (Held S → Type 0) → Held S → Type 0
@@ -50,38 +51,62 @@ module _ {S D C : Type 0} (d : databases.Ghosts D (Held S) C) where
   module _ (path : List ℕ) where
     -- No database was opened at a path, for this: that failed so, or it has a transaction open as it
     -- is opened, and was closed.
-    abbrev pub IsUnopened : Fault → Type 0
+    abbrev pub IsUnopened : CommandFault → Type 0
     IsUnopened why =
         ((error : Error) × d.refused path error × (why ≡ fault_of_opening error))
-        ⊎ ((why ≡ Disk) × ((conn : Held S) × d.opened path conn × (conn.in_transaction ≡ true)
+        ⊎ ((why ≡ fault.Store Disk) × ((conn : Held S) × d.opened path conn × (conn.in_transaction ≡ true)
         × IsEnded conn None))
 
     -- no database is at a path, for this: it couldn't be seen whether something is there, nothing
     -- is, or what is there wasn't opened
-    abbrev pub IsNotThere : Fault → Type 0
+    abbrev pub IsNotThere : CommandFault → Type 0
     IsNotThere why =
-        ((why ≡ Disk) × ((error : IoError) × d.sees path (Err error)))
-        ⊎ ((why ≡ NotAnOffice) × d.sees path (Ok false)) ⊎ IsUnopened why
+        ((why ≡ fault.Store Disk) × ((error : IoError) × d.sees path (Err error)))
+        ⊎ ((why ≡ fault.Store NotAnOffice) × d.sees path (Ok false)) ⊎ IsUnopened why
 
-    -- no database is at a path; or one was opened there, is no office of this schema, for this, and
-    -- was closed
-    abbrev pub IsOfOpening : Ghosts S → CommandFault → Type 0
-    IsOfOpening g (fault.Store why) = IsNotThere why
-    IsOfOpening g (fault.Opening why) =
-        (was new : Held S) × IsUnlimited (d.opened path) was × IsNoOffice g was new why
-        × IsEnded new None
-    IsOfOpening g _ = ⊥
+    -- a database was opened at a path, and has this mark
+    abbrev pub IsMarked : Held S → ℕ → Type 0
+    IsMarked conn mark = IsUnlimited (d.opened path) conn × d.marked path (Ok mark)
 
-    -- the mark of the database at a path couldn't be read
-    abbrev pub IsUnread : CommandFault → Type 0
-    IsUnread why = (why ≡ fault.Store Disk) × ((error : IoError) × d.marked path (Err error))
+    -- a database was opened at a path, and closed again as it was marked
+    abbrev pub WasOnlyOpened : Type 0
+    WasOnlyOpened = (conn : Held S) × IsUnlimited (d.opened path) conn × IsEnded conn None
 
-    -- the mark of the database at a path couldn't be read; or there is one, so that a journal is
-    -- wanted
+    -- no database is at a path; or one was opened there, its mark couldn't be read, and it was closed
+    abbrev pub IsNotMarked : CommandFault → Type 0
+    IsNotMarked why =
+        IsNotThere why
+        ⊎ ((why ≡ fault.Store Disk) × ((error : IoError) × d.marked path (Err error))
+        × WasOnlyOpened)
+
+    -- the database at a path has no mark that can be read; or it has one, so that a journal is
+    -- wanted, and was closed
     abbrev pub IsWithJournal : CommandFault → Type 0
     IsWithJournal why =
-        IsUnread why
-        ⊎ ((why ≡ fault.JournalUnnamed) × ((mark : ℕ) × d.marked path (Ok mark) × (0 < mark)))
+        IsNotMarked why
+        ⊎ ((why ≡ fault.JournalUnnamed) × ((mark : ℕ) × d.marked path (Ok mark) × (0 < mark))
+        × WasOnlyOpened)
+
+    -- the database at a path has no mark that can be read; or it has that of no journal, and was
+    -- closed
+    abbrev pub IsWithoutJournal : CommandFault → Type 0
+    IsWithoutJournal why =
+        IsNotMarked why
+        ⊎ ((why ≡ fault.JournalParted)
+        × ((mark : ℕ) × d.marked path (Ok mark) × (has_journal mark ≡ false)) × WasOnlyOpened)
+
+  -- what was opened is no office of this schema, for this, and was closed
+  abbrev pub IsNotOver : Ghosts S → Held S → CommandFault → Type 0
+  IsNotOver g was why =
+      (told : OpeningFault) × (why ≡ fault.Opening told)
+      × ((new : Held S) × IsNoOffice g was new told × IsEnded new None)
+
+  -- no database is at a path; or one was opened there, is no office of this schema, for this, and
+  -- was closed
+  abbrev pub IsOfOpening : (path : List ℕ) → Ghosts S → CommandFault → Type 0
+  IsOfOpening path g why =
+      IsNotThere path why
+      ⊎ ((was : Held S) × IsUnlimited (d.opened path) was × IsNotOver g was why)
 
 module _ {S : Type 0} (g : Ghosts S) (Opened : Held S → Type 0) where
   -- the office over a database that was opened, of which this is known
@@ -100,18 +125,32 @@ module _ {S : Type 0} (g : Ghosts S) (Opened : Held S → Type 0) where
     pub done : Done old new
     pub closed : Closed new mark
 
--- A command that serves the office at a path ended so. Where it failed, there was no office; or it
--- stopped for this, and the office was closed, whatever came of that. Or all was done, and the office
--- couldn't be closed.
-abbrev pub IsServed : {S D C : Type 0} → Ghosts S → (d : databases.Ghosts D (Held S) C)
-    → (path : List ℕ) → (Done : (old new : Held S) → Type 0)
+-- it failed, for a reason of which this is known
+abbrev pub FailsFor : (CommandFault → Type 0) → Result (Unit {0}) CommandFault → Type 0
+FailsFor Fails (Ok done) = ⊥
+FailsFor Fails (Err why) = Fails why
+
+-- An office was served, and that ended so. Where it stopped for this, the office was closed, whatever
+-- came of that. Or all was done, and the office couldn't be closed.
+abbrev pub IsServed : {S D C : Type 0} → (d : databases.Ghosts D (Held S) C)
+    → (Done : (old new : Held S) → Type 0) → (Stops : CommandFault → (old new : Held S) → Type 0)
+    → (mark : Option ℕ) → (old : Held S) → Result (Unit {0}) CommandFault → Type 0
+IsServed {S} d Done Stops mark old (Ok done) =
+    (new : Held S) × Done old new × IsClosed d.closed new mark
+IsServed {S} d Done Stops mark old (Err why) =
+    ((new : Held S) × Stops why old new × IsEnded d new mark)
+    ⊎ ((why ≡ fault.Close) × ((new : Held S) × Done old new × IsEnded d new mark))
+
+-- the same of an office that was opened, of which this is known
+abbrev pub IsServedFrom : {S D C : Type 0} → Ghosts S → (d : databases.Ghosts D (Held S) C)
+    → (Opened : Held S → Type 0) → (Done : (old new : Held S) → Type 0)
     → (Stops : CommandFault → (old new : Held S) → Type 0) → (mark : Option ℕ)
     → Result (Unit {0}) CommandFault → Type 0
-IsServed g d path Done Stops mark (Ok done) =
-    WasServed g (d.opened path) Done mark (IsClosed d.closed)
-IsServed g d path Done Stops mark (Err why) =
-    IsOfOpening d path g why ⊎ WasServed g (d.opened path) (Stops why) mark (IsEnded d)
-    ⊎ ((why ≡ fault.Close) × WasServed g (d.opened path) Done mark (IsEnded d))
+IsServedFrom g d Opened Done Stops mark (Ok done) =
+    WasServed g Opened Done mark (IsClosed d.closed)
+IsServedFrom g d Opened Done Stops mark (Err why) =
+    WasServed g Opened (Stops why) mark (IsEnded d)
+    ⊎ ((why ≡ fault.Close) × WasServed g Opened Done mark (IsEnded d))
 
 -- of serving and then closing the first fault is reported
 abbrev pub IsFirstOf : (served closed result : Result (Unit {0}) CommandFault) → Type 0

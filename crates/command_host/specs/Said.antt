@@ -7,14 +7,16 @@ use Rattle.command_host.specs.Plain.{plain, plain_lines}
 use Rattle.command_host.specs.declared.fault.CommandFault.{CommandFault}
 use Rattle.no_memory.specs.declared.witness.NoMemory.{«NoMemory» as Want}
 
--- why a command was refused or failed, and behind that the path of a file that couldn't be read
-abbrev pub refusal_text : CommandFault → (unread : Option (List ℕ)) → List ℕ
+-- why a command was refused or failed, and behind that what it is about, as a file that couldn't be
+-- read
+abbrev pub refusal_text : CommandFault → (subject : Option (List ℕ)) → List ℕ
 refusal_text why None = codes "office: " ++ command_fault_text why
-refusal_text why (Some path) = codes "office: " ++ (command_fault_text why ++ (codes " " ++ path))
+refusal_text why (Some subject) =
+    codes "office: " ++ (command_fault_text why ++ (codes " " ++ subject))
 
 -- the line that says so: no character before its end controls a terminal
-abbrev pub refusal_line : CommandFault → (unread : Option (List ℕ)) → List ℕ
-refusal_line why unread = plain (refusal_text why unread) ++ codes "\n"
+abbrev pub refusal_line : CommandFault → (subject : Option (List ℕ)) → List ℕ
+refusal_line why subject = plain (refusal_text why subject) ++ codes "\n"
 
 -- the line that says that there is no memory
 abbrev pub memory_line : List ℕ
@@ -39,6 +41,6 @@ module _ {E : Type 0} (contents : E → Option (List ℕ)) (old new : Counted E)
   abbrev pub AreSaid : List ℕ → Option Want → Type 0
   AreSaid lines want = IsSaidOr (plain_lines lines) want
 
-  -- what was said is why a command was refused or failed, and at which path a file couldn't be read
-  abbrev pub IsRefusal : CommandFault → (unread : Option (List ℕ)) → Option Want → Type 0
-  IsRefusal why unread want = IsSaidOr (refusal_line why unread) want
+  -- what was said is why a command was refused or failed, and what that is about
+  abbrev pub IsRefusal : CommandFault → (subject : Option (List ℕ)) → Option Want → Type 0
+  IsRefusal why subject want = IsSaidOr (refusal_line why subject) want

@@ -5,16 +5,16 @@ ghost use Rattle.command_host.specs.FaultTexts.{execution_fault_word};
 
 use crate::founding_fault::FoundingWordsFault;
 use crate::noted::NoneFailed;
-use desk::DeskFault;
+use desk_lines::DeskFault;
 use journal_faults::{NoEvidence, NotReopened, Refused, Unverified, Unwritten};
 use no_memory::NoMemory;
 use office_founding::{FoundingFault, MigrationFault, OpeningFault};
+use office_words::Fault;
 use profile_commands::{ComparedFault, ExecutionFault, FileFault};
-use review_policy::Fault;
 use std::fmt;
 
 /// Why a command is refused or failed, with the words that the program says on standard error.
-#[derive(Debug, Drop)]
+#[derive(Drop)]
 pub enum CommandFault {
     /// The words of `execve` describe no execution.
     Execution(ExecutionFault),
@@ -38,12 +38,14 @@ pub enum CommandFault {
     Close,
     /// Something is where a journal is to be begun.
     JournalThere,
-    /// Another command has the journal open.
-    JournalBusy,
+    /// Another command has a database or a journal open.
+    Busy,
     /// A journal can't be begun, or can't be opened.
     Journal,
     /// An office has a journal, and none was named.
     JournalUnnamed,
+    /// An office has no journal by its mark, or went on without, and one was named.
+    JournalParted,
     /// An office isn't opened again with its journal.
     Reopening(NotReopened),
     /// A journal is the file of its database, or one of the two is what is made beside the other.
@@ -111,8 +113,9 @@ impl fmt::Display for CommandFault {
             CommandFault::Open => f.write_str("read"),
             CommandFault::Close => f.write_str("disk"),
             CommandFault::JournalThere => f.write_str("journal-there"),
-            CommandFault::Journal | CommandFault::JournalUnnamed => f.write_str("journal"),
-            CommandFault::JournalBusy => f.write_str("busy"),
+            CommandFault::Journal | CommandFault::JournalUnnamed | CommandFault::JournalParted =>
+                f.write_str("journal"),
+            CommandFault::Busy => f.write_str("busy"),
             CommandFault::SameFile => f.write_str("same-file"),
             CommandFault::TooLarge => f.write_str("too-large"),
             CommandFault::Endless(_) => f.write_str("too-many-reads"),

@@ -1,12 +1,11 @@
 //! Why words describe no founding.
 
 use no_memory::NoMemory;
-use review_policy::WordFault;
-use std::error::Error;
+use office_words::WordFault;
 use std::fmt;
 
 /// Why words describe no founding, with the word that the program says on standard error.
-#[derive(Clone, Copy, Debug, Drop, PartialEq, Eq)]
+#[derive(Clone, Copy, Drop)]
 pub enum FoundingWordsFault {
     /// NAME or TEAM is no word, or DIGEST isn't 64 lower-case hexadecimal digits.
     BadWord,
@@ -30,8 +29,6 @@ impl fmt::Display for FoundingWordsFault {
         })
     }
 }
-
-impl Error for FoundingWordsFault {}
 
 impl From<WordFault> for FoundingWordsFault {
     ghost use Rattle.command_host.specs.FoundingFaults.{IsFaultOfWord};

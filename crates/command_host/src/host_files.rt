@@ -1,52 +1,106 @@
 //! The databases in the files of the host.
 
-ghost use Rattle.std.specs.Prelude.{[], true};
+ghost use Rattle.std.specs.Prelude.{[], true, false, IfOk, IsTrue};
+ghost use Rattle.sqlite_std_file.specs.File.{file_is_usable, IsFresh};
 ghost use Rattle.sqlite_wal.specs.Files.{image_at};
 ghost use Rattle.command_host.specs.HostFiles.{IsClosedInto, IsFoundIn};
 
 use crate::databases::Databases;
-use database_head::{HEAD, user_version};
-use marked_store::close_with;
+use crate::host_name::{HostFile, HostName};
+use crate::made::make_file;
+use database_files::{HEAD, NamedDisk, close_with, user_version};
 use no_memory::NoMemory;
-use sqlite::{Connection, Error, ErrorCode, FileFrom, FileStore, Start};
+use sqlite::{Connection, Error, ErrorCode, FileFrom, FileStore, Options, Start};
 use sqlite_disk::Files;
+use sqlite_std_file::OpenError;
 use std::alloc::AllocError;
-use std::fs::{File, OpenOptions, Permissions};
+use std::fs::File;
+use std::hash::{BuildHasher, RandomState};
 use std::io::{ErrorKind, Read};
-use std::os::unix::fs::{OpenOptionsExt, PermissionsExt};
 use std::{fs, io};
 
-// What the owner of a file may do with it, and nobody else anything.
-const OWNER_ALONE: u32 = 0o600;
+const CANNOT_OPEN: Error = Error::SqliteFailure(ErrorCode::CannotOpen);
 
 // Whether SQLite takes a path for a file's, and not for a name in memory or a URI.
 fn names_file(path: &str) -> bool {
     path != ":memory:" && !path.starts_with("file:")
 }
 
-// Makes an empty file where nothing is. The mode is given to the call that makes it, so that nobody
-// else can ever have it open, and set again since the umask took from it.
-fn make_file(rt: &HostRuntime, path: &str) -> io::Result<()> {
-    let file = OpenOptions::new()
-        .write(true)
-        .create_new(true)
-        .mode(OWNER_ALONE)
-        .open(rt, path)?;
-    file.set_permissions(Permissions::from_mode(OWNER_ALONE))
+// Why a database can't be opened, by an error of its files.
+fn unopened(error: &io::Error) -> Error {
+    match error.kind() {
+        ErrorKind::OutOfMemory => AllocError::from(NoMemory::told()).into(),
+        _ => CANNOT_OPEN,
+    }
 }
 
 // Sees to it that there is a file for a database at a path, an empty one where nothing was.
 fn have_file(rt: &HostRuntime, path: &str) -> Result<(), Error> {
     if !names_file(path) {
-        return Ok(());
+        return Err(CANNOT_OPEN);
     }
     match make_file(rt, path) {
-        Ok(()) => Ok(()),
+        Ok(_) => Ok(()),
         Err(error) if error.kind() == ErrorKind::AlreadyExists => Ok(()),
-        Err(error) if error.kind() == ErrorKind::OutOfMemory => {
-            Err(AllocError::from(NoMemory::told()).into())
-        }
-        Err(_) => Err(Error::SqliteFailure(ErrorCode::CannotOpen)),
+        Err(error) => Err(unopened(&error)),
+    }
+}
+
+// The files of the database at a path, which nobody else can open then.
+fn locked_files<T: Start>(
+    rt: &HostRuntime,
+    path: &str,
+    start: T,
+) -> Result<Files<FileFrom<T>>, Error>
+    ensures log { IfOk result (λ files. IsTrue (file_is_usable T.Start files.log)) }
+    ensures db { IfOk result (λ files. IsTrue (file_is_usable T.Start files.db)) }
+    ensures fresh { IfOk result (λ files. IsFresh true files.log × IsFresh false files.db) }
+{
+    match sqlite_std_file::open(rt, path, start) {
+        Ok(files) => Ok(files),
+        Err(OpenError::OutOfMemory) => Err(AllocError::from(NoMemory::told()).into()),
+        Err(OpenError::Busy) => Err(Error::SqliteFailure(ErrorCode::DatabaseBusy)),
+        Err(OpenError::Io(error)) => Err(unopened(&error)),
+        Err(OpenError::HotJournal) => Err(CANNOT_OPEN),
+    }
+}
+
+// The name of one of them, or why it has none.
+fn named(name: io::Result<HostName>) -> Result<HostName, Error> {
+    match name {
+        Ok(name) => Ok(name),
+        Err(error) => Err(unopened(&error)),
+    }
+}
+
+// What a connection draws its numbers by.
+fn options(rt: &HostRuntime) -> Result<Options, Error> {
+    match RandomState::new(rt) {
+        Ok(state) => Ok(Options::new(state.hash_one(&0u8))),
+        Err(_) => Err(CANNOT_OPEN),
+    }
+}
+
+// A connection over files that were opened by these names.
+fn connection<T: Start>(
+    rt: &HostRuntime,
+    files: Files<FileFrom<T>>,
+    log: HostName,
+    db: HostName,
+) -> Result<Connection<FileStore<HostFile<T>>>, Error>
+    requires log { IsTrue (file_is_usable T.Start files.log) }
+    requires db { IsTrue (file_is_usable T.Start files.db) }
+    requires fresh { IsFresh true files.log × IsFresh false files.db }
+    ensures { IfOk result (IsFoundIn (image_at T.Start)) }
+{
+    let options = options(rt)?;
+    let files = Files {
+        log: NamedDisk::new(files.log, log),
+        db: NamedDisk::new(files.db, db),
+    };
+    match Connection::open_files(rt.alloc(), files, options) {
+        Ok(conn) => Ok(conn),
+        Err((error, _)) => Err(error),
     }
 }
 
@@ -97,11 +151,11 @@ impl<'r, T: Start + Copy> HostFiles<'r, T> {
 #[derive(Drop)]
 pub struct ClosedFiles<T: Start + Copy> {
     /// The database's file and its log.
-    pub files: Files<FileFrom<T>>,
+    pub files: Files<HostFile<T>>,
 }
 
 impl<T: Start + Copy> Databases for HostFiles<'_, T> {
-    type Database = Connection<FileStore<FileFrom<T>>>;
+    type Database = Connection<FileStore<HostFile<T>>>;
 
     type Closed = ClosedFiles<T>;
 
@@ -117,17 +171,19 @@ impl<T: Start + Copy> Databases for HostFiles<'_, T> {
         mark_at(self.rt, path)
     }
 
-    fn open(&self, path: &str) -> Result<Connection<FileStore<FileFrom<T>>>, Error> {
+    // It was opened by this name where that led to one file before and after: who opens it asks how
+    // long it is.
+    fn open(&self, path: &str) -> Result<Connection<FileStore<HostFile<T>>>, Error> {
         have_file(self.rt, path)?;
-        match Connection::open_from(self.rt, path, false, self.start) {
-            Ok(conn) => Ok(conn),
-            Err((error, _)) => Err(error),
-        }
+        let db = named(HostName::new(self.rt, path))?;
+        let files = locked_files(self.rt, path, self.start)?;
+        let log = named(HostName::of_log(self.rt, path))?;
+        connection(self.rt, files, log, db)
     }
 
     fn close(
         &self,
-        database: Connection<FileStore<FileFrom<T>>>,
+        database: Connection<FileStore<HostFile<T>>>,
         mark: Option<u32>,
     ) -> Result<ClosedFiles<T>, Error> {
         match close_with(database, mark) {
@@ -154,31 +210,5 @@ impl Start for UnknownFiles {
 
     fn mixes() -> bool {
         true
-    }
-}
-
-impl Databases for HostRuntime {
-    type Database = Connection<FileStore<FileFrom<UnknownFiles>>>;
-
-    type Closed = ClosedFiles<UnknownFiles>;
-
-    fn is_there(&self, path: &str) -> io::Result<bool> {
-        fs::exists(self, path)
-    }
-
-    fn mark_at(&self, path: &str) -> io::Result<u32> {
-        mark_at(self, path)
-    }
-
-    fn open(&self, path: &str) -> Result<Connection<FileStore<FileFrom<UnknownFiles>>>, Error> {
-        HostFiles::new(self, UnknownFiles).open(path)
-    }
-
-    fn close(
-        &self,
-        database: Connection<FileStore<FileFrom<UnknownFiles>>>,
-        mark: Option<u32>,
-    ) -> Result<ClosedFiles<UnknownFiles>, Error> {
-        HostFiles::new(self, UnknownFiles).close(database, mark)
     }
 }

@@ -1,37 +1,26 @@
 //! The journals in the files of the host.
 
-use crate::file_id::{FileId, folder_of, id_of, is_one_file};
+ghost use Rattle.std.specs.Prelude.{◌≡◌, [], false, IfOk, IsTrue};
+ghost use Rattle.sqlite_std_file.specs.File.{file_is_usable, IsFresh};
+
+use crate::file_id::{folder_of, is_one_file};
+use crate::host_name::{HostFile, HostName, log_name};
 use crate::journals::Journals;
+use crate::made::{Made, make_file, remove_unused};
 use crate::no_file::NoFile;
-use crate::spare::{free_spare, remove_spare};
-use named_disk::{Name, NamedDisk};
+use database_files::{Name, NamedDisk};
 use no_memory::NoMemory;
 use sqlite::{FileFrom, Start};
 use sqlite_disk::{Disk, Files};
 use sqlite_std_file::{OpenError, open};
 use std::alloc::AllocError;
-use std::fs::{File, OpenOptions, Permissions};
+use std::fs::File;
 use std::io::ErrorKind;
-use std::os::unix::fs::{OpenOptionsExt, PermissionsExt};
 use std::{fs, io};
-
-// What the owner of a journal may do with it, and nobody else anything.
-const OWNER_ALONE: u32 = 0o600;
 
 // Waits until a crash would leave the entry of a path in its folder.
 fn sync_entry(rt: &HostRuntime, path: &str) -> io::Result<()> {
     File::open(rt, folder_of(path))?.sync_all()
-}
-
-// Makes an empty file where nothing is. The mode is given to the call that makes it, so that nobody
-// else can ever have it open, and set again since the umask took from it.
-fn make_file(rt: &HostRuntime, path: &str) -> io::Result<()> {
-    let file = OpenOptions::new()
-        .write(true)
-        .create_new(true)
-        .mode(OWNER_ALONE)
-        .open(rt, path)?;
-    file.set_permissions(Permissions::from_mode(OWNER_ALONE))
 }
 
 // Why a file can't be made.
@@ -64,38 +53,46 @@ fn unseen(error: &io::Error) -> NoFile {
     }
 }
 
-/// The path by which the file of a journal was opened.
-#[derive(Drop)]
-pub struct HostName {
-    rt: HostRuntime,
-    path: String,
-    file: FileId,
-}
-
-impl HostName {
-    // The path of the file that is there.
-    fn new(rt: &HostRuntime, path: &str) -> io::Result<HostName> {
-        let file = id_of(&fs::metadata(rt, path)?);
-        let path = String::from_str(rt.alloc(), path)?;
-        Ok(HostName {
-            rt: *rt,
-            path,
-            file,
-        })
+// The file at a path, which nobody else can open then.
+fn locked_file<T: Start>(rt: &HostRuntime, path: &str, start: T) -> Result<FileFrom<T>, NoFile>
+    ensures usable { IfOk result (λ file. IsTrue (file_is_usable T.Start file)) }
+    ensures fresh { IfOk result (λ file. IsFresh false file) }
+{
+    match open(rt, path, start) {
+        Ok(Files { log, db }) => {
+            drop(log);
+            Ok(db)
+        }
+        Err(error) => Err(unopened(error)),
     }
 }
 
-impl Name for HostName {
-    ghost use Rattle.std.specs.Prelude.{⊤};
-
-    ghost leads = { λ _ _ _. ⊤ };
-
-    // A file to which a path leads has a link, and while it is open no other gets its number.
-    fn leads_to_file(&self, len: usize) -> bool {
-        match fs::metadata(&self.rt, self.path.as_str()) {
-            Ok(found) => id_of(&found) == self.file && found.len() == len as u64,
-            Err(_) => false,
-        }
+// A file that was opened, where it is the one that was made, and nobody has written to it.
+fn begun<T: Start>(
+    rt: &HostRuntime,
+    path: &str,
+    made: &Made<'_>,
+    file: HostFile<T>,
+) -> Result<HostFile<T>, NoFile>
+    ensures { IfOk result (λ file.
+        IsTrue (⟦<NamedDisk<FileFrom<T>, HostName> as Disk>⟧.is_clean file)
+        → ⟦<NamedDisk<FileFrom<T>, HostName> as Disk>⟧.seen file ≡ []) }
+{
+    let mut file = file;
+    if !file.may_be_used() {
+        return Err(NoFile::Failed);
+    }
+    if !file.name().is_of(made.id()) {
+        return Err(NoFile::There);
+    }
+    match file.len() {
+        Ok(0) => {}
+        Ok(_) => return Err(NoFile::There),
+        Err(_) => return Err(NoFile::There),
+    }
+    match sync_entry(rt, path) {
+        Ok(()) => Ok(file),
+        Err(_) => Err(NoFile::Failed),
     }
 }
 
@@ -115,27 +112,27 @@ impl<'r, T: Start + Copy> HostJournals<'r, T> {
 }
 
 impl<T: Start + Copy> Journals for HostJournals<'_, T> {
-    type File = NamedDisk<FileFrom<T>, HostName>;
+    type File = HostFile<T>;
 
     ghost use Rattle.std.specs.Prelude.{⊤};
 
     ghost creates = { λ _ _ _. ⊤ };
 
+    // While a file that was made is not yet locked, another command may take it for its own.
     fn create(&self, path: &str) -> Result<Self::File, NoFile> {
-        match make_file(self.rt, path) {
-            Ok(()) => {}
+        let made = match make_file(self.rt, path) {
+            Ok(made) => made,
             Err(error) => return Err(unmade(&error)),
-        }
-        let why = match self.open(path) {
-            Ok(file) => match sync_entry(self.rt, path) {
-                Ok(()) => return Ok(file),
-                Err(_) => NoFile::Failed,
-            },
-            Err(why) => why,
         };
-        // Why there is no journal is reported, and not whether the file was removed.
-        let _ = self.remove(path);
-        Err(why)
+        let begun = match self.open(path) {
+            Ok(file) => begun(self.rt, path, &made, file),
+            Err(why) => Err(why),
+        };
+        if begun.is_err() {
+            // Why there is no journal is reported, and not whether the file was removed.
+            let _ = remove_unused(&made, path);
+        }
+        begun
     }
 
     ghost opens = { λ _ _ _. ⊤ };
@@ -147,29 +144,36 @@ impl<T: Start + Copy> Journals for HostJournals<'_, T> {
             Ok(name) => name,
             Err(error) => return Err(unseen(&error)),
         };
-        let spare = match free_spare(self.rt, path) {
-            Ok(spare) => spare,
+        let log = match log_name(self.rt, path) {
+            Ok(log) => log,
             Err(error) => return Err(unseen(&error)),
         };
-        let Files { log: _spare, db } = match open(self.rt, path, self.start) {
-            Ok(files) => files,
-            Err(error) => return Err(unopened(error)),
-        };
-        if let Some(spare) = spare {
+        // The kit's file has a log beside it, which is made here where nothing is.
+        let spare = make_file(self.rt, log.as_str());
+        let opened = locked_file(self.rt, path, self.start);
+        if let Ok(spare) = spare {
             // It is no harm where it stays.
-            let _ = remove_spare(self.rt, spare.as_str());
+            let _ = remove_unused(&spare, log.as_str());
         }
-        let mut file = NamedDisk::new(db, name);
+        let mut file = match opened {
+            Ok(file) => NamedDisk::new(file, name),
+            Err(why) => return Err(why),
+        };
         match file.len() {
             Ok(_) => Ok(file),
             Err(_) => Err(NoFile::Failed),
         }
     }
 
-    ghost removes = { λ _ _ _. ⊤ };
+    ghost removes = { λ _ _ _ _. ⊤ };
 
-    fn remove(&self, path: &str) -> io::Result<()> {
+    fn remove(&self, path: &str, file: Self::File) -> io::Result<()> {
+        if !file.name().leads_to_file(None) {
+            return Err(ErrorKind::NotFound.into());
+        }
         fs::remove_file(self.rt, path)?;
+        // It was locked until now.
+        drop(file);
         sync_entry(self.rt, path)
     }
 

@@ -1,6 +1,6 @@
 //! Journals at paths.
 
-ghost use Rattle.std.specs.Prelude.{ℕ, List, Bool, Result, ⊤, IfOk};
+ghost use Rattle.std.specs.Prelude.{◌≡◌, ℕ, List, [], Bool, Result, ⊤, IfOk, IsTrue};
 ghost use Rattle.std.specs.declared.alloc.AllocError.{AllocError as Refused};
 ghost use Rattle.std.specs.declared.io.Error.{Error};
 ghost use Rattle.sqlite_disk.specs.Disk.{Only};
@@ -21,13 +21,17 @@ pub trait Journals {
     /// What came of making the file at a path.
     ghost creates: { Self → List ℕ → Result Self.File NoFile → Type 0 };
 
-    /// Makes an empty file at a path, which its owner alone may read and write.
+    /// Makes an empty file at a path, which its owner alone may read and write, and nobody else can
+    /// open then.
     ///
     /// # Errors
     ///
-    /// `There` where something is there, and that is left as it is.
+    /// `There` where something is there, or another file or a byte by the time that it is opened, and
+    /// `Busy` where another has it open by then: that is left as it is.
     fn create(&self, path: &str) -> Result<Self::File, NoFile>
-        ensures { creates self.now path.now result };
+        ensures created { creates self.now path.now result }
+        ensures empty { IfOk result (λ file.
+            IsTrue (Self.File.is_clean file) → Self.File.seen file ≡ []) };
 
     /// What came of opening the file at a path.
     ghost opens: { Self → List ℕ → Result Self.File NoFile → Type 0 };
@@ -42,12 +46,12 @@ pub trait Journals {
         ensures settled { IfOk result (λ file.
             Only (Self.File.seen file) (Self.File.may_leave file)) };
 
-    /// What came of removing the file at a path.
-    ghost removes: { Self → List ℕ → Result ⊤ Error → Type 0 };
+    /// What came of removing a file at its path.
+    ghost removes: { Self → List ℕ → Self.File → Result ⊤ Error → Type 0 };
 
-    /// Removes the file at a path.
-    fn remove(&self, path: &str) -> io::Result<()>
-        ensures { removes self.now path.now result };
+    /// Removes a file at its path, while that leads to it, and lets it go then.
+    fn remove(&self, path: &str, file: Self::File) -> io::Result<()>
+        ensures { removes self.now path.now file result };
 
     /// What came of asking whether the file at a path and a database at another are one file.
     ghost compares: { Self → List ℕ → List ℕ → Result Bool Refused → Type 0 };

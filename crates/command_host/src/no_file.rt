@@ -7,7 +7,7 @@ use crate::fault::CommandFault;
 use no_memory::NoMemory;
 
 /// Why the file of a journal can't be had.
-#[derive(Clone, Copy, Debug, Drop, PartialEq, Eq)]
+#[derive(Clone, Copy, Drop)]
 pub enum NoFile {
     /// Something is where it is to be made.
     There,
@@ -25,7 +25,7 @@ pub fn fault_of(why: NoFile) -> CommandFault
 {
     match why {
         NoFile::There => CommandFault::JournalThere,
-        NoFile::Busy => CommandFault::JournalBusy,
+        NoFile::Busy => CommandFault::Busy,
         NoFile::NoMemory(witness) => CommandFault::NoMemory(witness),
         NoFile::Failed => CommandFault::Journal,
     }

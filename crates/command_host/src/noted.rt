@@ -12,7 +12,7 @@ use streams::is_interrupted;
 
 /// That it wasn't noted of a file that a call of read failed. Its field is private, so none is made of
 /// a file whose call failed.
-#[derive(Clone, Copy, Debug, Drop, PartialEq, Eq)]
+#[derive(Clone, Copy, Drop)]
 pub struct NoneFailed {
     failed: bool,
     ghost none: { failed ≡ false },

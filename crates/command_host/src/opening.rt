@@ -1,26 +1,32 @@
 //! Opening what stands at a path, and closing an office.
 
-ghost use Rattle.std.specs.Prelude.{◌≡◌, IfErr, IfOk, Ok, OnOk};
+ghost use Rattle.std.specs.Prelude.{◌≡◌, IfErr, IfOk, IsTrue, OnOk};
 ghost use Rattle.sqlite.specs.Held.{state};
 ghost use Rattle.office_store.specs.Shown.{IsIdle};
+ghost use Rattle.review_office.specs.Opened.{IsOver};
+ghost use Rattle.command_host.specs.Marks.{has_journal};
 ghost use Rattle.command_host.specs.Openings.{fault_of_opening, IsClosed, IsEnded, IsFirstOf};
-ghost use Rattle.command_host.specs.Openings.{IsNotThere, IsOfOpening, IsOpenedOffice, IsUnlimited};
-ghost use Rattle.command_host.specs.Openings.{IsUnopened, IsUnread, IsWithJournal};
+ghost use Rattle.command_host.specs.Openings.{IsMarked, IsNotMarked, IsNotOver, IsNotThere};
+ghost use Rattle.command_host.specs.Openings.{IsOfOpening, IsOpenedOffice, IsUnlimited, IsUnopened};
+ghost use Rattle.command_host.specs.Openings.{IsWithJournal, IsWithoutJournal};
 
 use crate::databases::Databases;
 use crate::fault::CommandFault;
-use office_desk::Office;
+use crate::marks::has_journal;
 use office_rows::fault_of_error;
-use review_policy::Fault;
+use office_words::Fault;
+use review_office::Office;
 use sqlite::{Alter, Connection, Error, ErrorCode};
 
-/// Why what stands at a path isn't opened: `NotAnOffice` where it is no database.
-pub fn fault_of_opening(error: Error) -> Fault
+/// Why what stands at a path isn't opened: `NotAnOffice` where it is no database, `Busy` where another
+/// command has it open.
+pub fn fault_of_opening(error: Error) -> CommandFault
     ensures { result ≡ fault_of_opening error }
 {
     match error {
-        Error::SqliteFailure(ErrorCode::NotADatabase) => Fault::NotAnOffice,
-        error => fault_of_error(error),
+        Error::SqliteFailure(ErrorCode::NotADatabase) => CommandFault::Store(Fault::NotAnOffice),
+        Error::SqliteFailure(ErrorCode::DatabaseBusy) => CommandFault::Busy,
+        error => CommandFault::Store(fault_of_error(error)),
     }
 }
 
@@ -28,12 +34,11 @@ pub fn fault_of_opening(error: Error) -> Fault
 ///
 /// # Errors
 ///
-/// `NotAnOffice` where what is there is no database; `Disk` also where another connection has it
-/// open.
+/// As of [`fault_of_opening`]; `Disk` also where it has a transaction open.
 pub fn open<S: Alter + Drop, D: Databases<Database = Connection<S>>>(
     databases: &D,
     path: &str,
-) -> Result<Connection<S>, Fault>
+) -> Result<Connection<S>, CommandFault>
     ensures idle { IfOk result (λ conn. IsIdle (state S.Store conn)) }
     ensures opened { IfOk result (IsUnlimited (D.opened path.now)) }
     ensures fault { IfErr result (IsUnopened D.Databases path.now) }
@@ -43,7 +48,7 @@ pub fn open<S: Alter + Drop, D: Databases<Database = Connection<S>>>(
             if !conn.is_autocommit() {
                 // That it is refused is reported, and not whether this closed.
                 let _ = databases.close(conn, None);
-                return Err(Fault::Disk);
+                return Err(CommandFault::Store(Fault::Disk));
             }
             conn.set_step_limit(None);
             Ok(conn)
@@ -56,12 +61,12 @@ pub fn open<S: Alter + Drop, D: Databases<Database = Connection<S>>>(
 ///
 /// # Errors
 ///
-/// `NotAnOffice` also where nothing is there, and no file is made then; `Disk` also where that can't
-/// be seen.
+/// As of [`open`]; `NotAnOffice` also where nothing is there, and no file is made then; `Disk` also
+/// where that can't be seen.
 pub fn database_at<S: Alter + Drop, D: Databases<Database = Connection<S>>>(
     databases: &D,
     path: &str,
-) -> Result<Connection<S>, Fault>
+) -> Result<Connection<S>, CommandFault>
     ensures idle { IfOk result (λ conn. IsIdle (state S.Store conn)) }
     ensures opened { IfOk result (IsUnlimited (D.opened path.now)) }
     ensures fault { IfErr result (IsNotThere D.Databases path.now) }
@@ -69,27 +74,24 @@ pub fn database_at<S: Alter + Drop, D: Databases<Database = Connection<S>>>(
     // Opening would make an empty database.
     match databases.is_there(path) {
         Ok(true) => open(databases, path),
-        Ok(false) => Err(Fault::NotAnOffice),
-        Err(_) => Err(Fault::Disk),
+        Ok(false) => Err(CommandFault::Store(Fault::NotAnOffice)),
+        Err(_) => Err(CommandFault::Store(Fault::Disk)),
     }
 }
 
-/// The office at a path.
+/// The office over a database that was opened.
 ///
 /// # Errors
 ///
-/// As of [`database_at`], and as [`Office::over`] refuses it.
-pub fn office_at<S: Alter + Drop, D: Databases<Database = Connection<S>>>(
+/// As [`Office::over`] refuses it; then the database is closed.
+pub fn office_over<S: Alter + Drop, D: Databases<Database = Connection<S>>>(
     databases: &D,
-    path: &str,
+    conn: Connection<S>,
 ) -> Result<Office<S>, CommandFault>
-    ensures opened { IfOk result (IsOpenedOffice S.Store (D.opened path.now)) }
-    ensures fault { IfErr result (IsOfOpening D.Databases path.now S.Store) }
+    requires { IsIdle (state S.Store conn) }
+    ensures over { IfOk result (IsOver S.Store conn) }
+    ensures fault { IfErr result (IsNotOver D.Databases S.Store conn) }
 {
-    let conn = match database_at(databases, path) {
-        Ok(conn) => conn,
-        Err(fault) => return Err(CommandFault::Store(fault)),
-    };
     match Office::over(conn) {
         Ok(office) => Ok(office),
         Err((fault, conn)) => {
@@ -100,41 +102,91 @@ pub fn office_at<S: Alter + Drop, D: Databases<Database = Connection<S>>>(
     }
 }
 
-/// The mark of the database at a path, which isn't opened.
+/// The office at a path.
 ///
 /// # Errors
 ///
-/// `Store` where it can't be read.
-pub fn mark_at<S: Alter + Drop, D: Databases<Database = Connection<S>>>(
+/// As of [`database_at`] and [`office_over`].
+pub fn office_at<S: Alter + Drop, D: Databases<Database = Connection<S>>>(
     databases: &D,
     path: &str,
-) -> Result<u32, CommandFault>
-    ensures read { IfOk result (λ mark. D.marked path.now (Ok mark)) }
-    ensures unread { IfErr result (IsUnread D.Databases path.now) }
+) -> Result<Office<S>, CommandFault>
+    ensures opened { IfOk result (IsOpenedOffice S.Store (D.opened path.now)) }
+    ensures fault { IfErr result (IsOfOpening D.Databases path.now S.Store) }
 {
+    let conn = database_at(databases, path)?;
+    office_over(databases, conn)
+}
+
+/// The database at a path, and its mark. That is looked at once the database is open, so that nobody
+/// else marks it meanwhile.
+///
+/// # Errors
+///
+/// As of [`database_at`]; and `Store` where the mark can't be read, and then the database is closed.
+pub fn marked_at<S: Alter + Drop, D: Databases<Database = Connection<S>>>(
+    databases: &D,
+    path: &str,
+) -> Result<(Connection<S>, u32), CommandFault>
+    ensures idle { IfOk result (λ found. IsIdle (state S.Store found.0)) }
+    ensures opened { IfOk result (λ found. IsMarked D.Databases path.now found.0 found.1) }
+    ensures fault { IfErr result (IsNotMarked D.Databases path.now) }
+{
+    let conn = database_at(databases, path)?;
     match databases.mark_at(path) {
-        Ok(mark) => Ok(mark),
-        Err(_) => Err(CommandFault::Store(Fault::Disk)),
+        Ok(mark) => Ok((conn, mark)),
+        Err(_) => {
+            // That it can't be read is reported, and not whether this closed.
+            let _ = databases.close(conn, None);
+            Err(CommandFault::Store(Fault::Disk))
+        }
     }
 }
 
-/// Looks that no journal is wanted beside the database at a path, which isn't opened.
+/// The database at a path, where it has no mark: its office has no journal.
 ///
 /// # Errors
 ///
-/// `JournalUnnamed` where one is, and as of [`mark_at`].
-pub fn look_for_mark<S: Alter + Drop, D: Databases<Database = Connection<S>>>(
+/// As of [`marked_at`]; and `JournalUnnamed` where it has one, and then the database is closed.
+pub fn unmarked_at<S: Alter + Drop, D: Databases<Database = Connection<S>>>(
     databases: &D,
     path: &str,
-) -> Result<(), CommandFault>
-    ensures none { OnOk result (D.marked path.now (Ok 0)) }
-    ensures some { IfErr result (IsWithJournal D.Databases path.now) }
+) -> Result<Connection<S>, CommandFault>
+    ensures idle { IfOk result (λ conn. IsIdle (state S.Store conn)) }
+    ensures opened { IfOk result (λ conn. IsMarked D.Databases path.now conn 0) }
+    ensures fault { IfErr result (IsWithJournal D.Databases path.now) }
 {
-    match mark_at(databases, path) {
-        Ok(mark) if mark > 0 => Err(CommandFault::JournalUnnamed),
-        Ok(_) => Ok(()),
-        Err(fault) => Err(fault),
+    let (conn, mark) = marked_at(databases, path)?;
+    if mark == 0 {
+        return Ok(conn);
     }
+    // That a journal is wanted is reported, and not whether this closed.
+    let _ = databases.close(conn, None);
+    Err(CommandFault::JournalUnnamed)
+}
+
+/// The database at a path and its mark, where that is of a journal.
+///
+/// # Errors
+///
+/// As of [`marked_at`]; and `JournalParted` where it has no mark, or that of an office that went on
+/// without its journal. Then the database is closed.
+pub fn kept_at<S: Alter + Drop, D: Databases<Database = Connection<S>>>(
+    databases: &D,
+    path: &str,
+) -> Result<(Connection<S>, u32), CommandFault>
+    ensures idle { IfOk result (λ found. IsIdle (state S.Store found.0)) }
+    ensures opened { IfOk result (λ found. IsMarked D.Databases path.now found.0 found.1
+        × IsTrue (has_journal found.1)) }
+    ensures fault { IfErr result (IsWithoutJournal D.Databases path.now) }
+{
+    let (conn, mark) = marked_at(databases, path)?;
+    if has_journal(mark) {
+        return Ok((conn, mark));
+    }
+    // That it has none is reported, and not whether this closed.
+    let _ = databases.close(conn, None);
+    Err(CommandFault::JournalParted)
 }
 
 /// Closes an office, so that all of it stands in one file, and has this mark; without one it keeps the

@@ -10,7 +10,7 @@ use std::{fs, io};
 
 /// How a regular file is at a moment: which it is, how long, and when it was last written. It can't be
 /// copied: two are of two looks.
-#[derive(Debug, Drop, PartialEq, Eq)]
+#[derive(Drop, PartialEq)]
 pub struct Stamp {
     file: FileId,
     len: u64,

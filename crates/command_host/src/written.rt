@@ -81,17 +81,17 @@ pub fn say_lines<E: Write>(alloc: Global, errors: &mut Counted<E>, text: &str) -
     say_or(errors, plain_lines(alloc, text))
 }
 
-// Why a command was refused or failed, and behind that the path of a file that couldn't be read.
+// Why a command was refused or failed, and behind that what it is about.
 fn refusal_text(
     alloc: Global,
     fault: &CommandFault,
-    unread: Option<&str>,
+    subject: Option<&str>,
 ) -> Result<String, AllocError>
     ensures { IfOk result (λ text.
-        string_bytes text ≡ refusal_text fault.now (option_copied unread.entry)) }
+        string_bytes text ≡ refusal_text fault.now (option_copied subject.entry)) }
 {
-    match unread {
-        Some(path) => format!(in alloc; "office: {fault} {path}"),
+    match subject {
+        Some(subject) => format!(in alloc; "office: {fault} {subject}"),
         None => format!(in alloc; "office: {fault}"),
     }
 }
@@ -100,28 +100,28 @@ fn refusal_text(
 fn refusal_line(
     alloc: Global,
     fault: &CommandFault,
-    unread: Option<&str>,
+    subject: Option<&str>,
 ) -> Result<String, AllocError>
     ensures { IfOk result (λ line.
-        string_bytes line ≡ refusal_line fault.now (option_copied unread.entry)) }
+        string_bytes line ≡ refusal_line fault.now (option_copied subject.entry)) }
 {
-    let text = refusal_text(alloc, fault, unread)?;
+    let text = refusal_text(alloc, fault, subject)?;
     let mut line = plain_text(alloc, text.as_str())?;
     line.push('\n')?;
     Ok(line)
 }
 
-/// Says why a command was refused or failed; and at which path a file couldn't be read, where it is
-/// that. No character but the line feed at the end controls a terminal. Or it says in place of that
+/// Says why a command was refused or failed; and what that is about, as a file that couldn't be read,
+/// where that is given. No character but the line feed at the end controls a terminal. Or it says in place of that
 /// that there is no memory, with the witness.
 pub fn refuse<E: Write>(
     alloc: Global,
     errors: &mut Counted<E>,
     fault: &CommandFault,
-    unread: Option<&str>,
+    subject: Option<&str>,
 ) -> Option<NoMemory>
-    ensures { IsRefusal E.contents errors.old errors.new fault.now (option_copied unread.entry)
+    ensures { IsRefusal E.contents errors.old errors.new fault.now (option_copied subject.entry)
         result }
 {
-    say_or(errors, refusal_line(alloc, fault, unread))
+    say_or(errors, refusal_line(alloc, fault, subject))
 }

@@ -1,7 +1,7 @@
 //! What the words of a command line ask for.
 
 /// What the words of a command line ask the program for, with the values as they were written.
-#[derive(Debug, Drop)]
+#[derive(Drop)]
 pub enum Command<'w> {
     /// No word: the trial desk.
     Trial,
@@ -49,7 +49,7 @@ pub enum Command<'w> {
 }
 
 /// The values of `execve`.
-#[derive(Clone, Copy, Debug)]
+#[derive(Clone, Copy)]
 pub struct ExecveWords<'w> {
     /// FILE, which holds the document.
     pub file: &'w str,
@@ -64,7 +64,7 @@ pub struct ExecveWords<'w> {
 }
 
 /// What is said of the journal of an office that goes on.
-#[derive(Clone, Copy, Debug)]
+#[derive(Clone, Copy)]
 pub enum JournalWords<'w> {
     /// Nothing: the office has none.
     Unnamed,
@@ -90,7 +90,7 @@ impl<'w> JournalWords<'w> {
 }
 
 /// The values of `verify`.
-#[derive(Clone, Copy, Debug)]
+#[derive(Clone, Copy)]
 pub struct VerifyWords<'w> {
     /// DB, the file of the office.
     pub database: &'w str,
@@ -103,7 +103,7 @@ pub struct VerifyWords<'w> {
 }
 
 /// The seal that a line of a journal had.
-#[derive(Clone, Copy, Debug)]
+#[derive(Clone, Copy)]
 pub struct KeptSeal {
     /// N, the number of the line, from 1.
     pub line: u64,
@@ -112,7 +112,7 @@ pub struct KeptSeal {
 }
 
 /// The values of `history`.
-#[derive(Clone, Copy, Debug)]
+#[derive(Clone, Copy)]
 pub struct HistoryWords<'w> {
     /// JOURNAL, its file.
     pub journal: &'w str,
@@ -129,7 +129,7 @@ pub struct HistoryWords<'w> {
 }
 
 /// The values of `evidence`.
-#[derive(Clone, Copy, Debug)]
+#[derive(Clone, Copy)]
 pub struct EvidenceWords<'w> {
     /// JOURNAL, its file.
     pub journal: &'w str,
@@ -144,7 +144,7 @@ pub struct EvidenceWords<'w> {
 }
 
 /// How many exchanges `serve` serves.
-#[derive(Clone, Copy, Debug)]
+#[derive(Clone, Copy)]
 pub enum Requests {
     /// `--requests N`: N, from 1 to 1,000,000.
     Count(u32),
@@ -169,7 +169,7 @@ impl Requests {
 }
 
 /// The values of `serve`.
-#[derive(Clone, Copy, Debug)]
+#[derive(Clone, Copy)]
 pub struct ServeWords<'w> {
     /// DB, the file of the office.
     pub database: &'w str,
@@ -182,7 +182,7 @@ pub struct ServeWords<'w> {
 }
 
 /// The values of `init`.
-#[derive(Debug, Drop)]
+#[derive(Drop)]
 pub struct InitWords<'w> {
     /// DB, the file of the office.
     pub database: &'w str,

@@ -23,9 +23,9 @@ which `init --journal` began. An office that has a journal goes on without it on
 Statuses: 0, all lines were answered; 1, it was refused or failed, which standard error says as
 `office: WORDS`.
 
-Example:
-  office desk team.db < requests.jsonl
-  office desk team.db --journal team.journal < requests.jsonl";
+Examples:
+  office desk team.db --journal team.journal < requests.jsonl
+  office desk team.db < requests.jsonl";
 
 /// Adds `desk DB [--journal FILE | --without-journal]`.
 pub(crate) fn add_desk<'a>(

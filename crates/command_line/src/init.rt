@@ -23,9 +23,9 @@ founding is the first.
 Statuses: 0, it prints `founded`; 1, it was refused or failed, which standard error says as
 `office: WORDS`.
 
-Example:
-  office init team.db root office $(printf abc | sha256sum | cut -c 1-64) CAP_SYS_ADMIN
-  office init team.db root office $(printf abc | sha256sum | cut -c 1-64) --journal team.journal";
+Examples:
+  office init team.db root office $(printf abc | sha256sum | cut -c 1-64) --journal team.journal
+  office init team.db root office $(printf abc | sha256sum | cut -c 1-64) CAP_SYS_ADMIN";
 
 /// Adds `init DB NAME TEAM DIGEST [CAP]... [--journal FILE]`.
 pub(crate) fn add_init<'a>(

@@ -31,9 +31,9 @@ what happens then isn't in the journal, and the two go on together no more.
 Statuses: 0, N exchanges are over; 1, it was refused or failed, which standard error says as
 `office: WORDS`.
 
-Example:
-  office serve team.db --port 8080 --requests 1000
-  office serve team.db --port 8080 --until-stopped --journal team.journal";
+Examples:
+  office serve team.db --journal team.journal --port 8080 --requests 1000
+  office serve team.db --journal team.journal --port 8080 --until-stopped";
 
 /// Adds `serve DB [--port P] (--requests N | --until-stopped) [--journal FILE |
 /// --without-journal]`.

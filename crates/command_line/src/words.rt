@@ -25,8 +25,8 @@ use crate::verify::{add_verify, verify_of};
 use clap::ArgMatches;
 use std::alloc::{AllocError, Global};
 
-// The version of the program: that of the newest heading of CHANGELOG.md, which the stored run of
-// `office_transcripts` compares.
+// The version of the program: that of the newest heading of CHANGELOG.md, which `tools/test`
+// compares.
 const VERSION: &str = "0.1.0";
 
 const ABOUT: &str = "A review office for container sandbox profiles";
@@ -41,9 +41,9 @@ Statuses: 0, it was done; 1, it was refused or failed, which standard error says
 Examples:
   office check examples/web.json
   office execve examples/web.json --file-permitted CAP_NET_RAW --file-effective
-  office init team.db root office $(printf abc | sha256sum | cut -c 1-64) CAP_SYS_ADMIN
-  office desk team.db < requests.jsonl
-  office serve team.db --port 8080 --requests 1000
+  office init team.db root office $(printf abc | sha256sum | cut -c 1-64) --journal team.journal
+  office desk team.db --journal team.journal < requests.jsonl
+  office serve team.db --journal team.journal --port 8080 --requests 1000
   office < examples/first-path.jsonl";
 
 // The commands, in the order of the help.

@@ -1,7 +1,7 @@
 -- The responses by what came of exchanges.
 use Rattle.std.specs.Prelude.{ℕ, List, Bool, true, false, Option, Some, None}
 use Rattle.review_policy.specs.declared.answer.Answer.TheVariants.{Fault}
-use Rattle.review_policy.specs.declared.fault.Fault.TheVariants as faults
+use Rattle.office_words.specs.declared.fault.Fault.TheVariants as faults
 use Rattle.http_requests.specs.Message.{code_of}
 use Rattle.http_requests.specs.declared.status.Status.{Status}
 use Rattle.http_requests.specs.Responses.{refusal_with, response_to, status_of}

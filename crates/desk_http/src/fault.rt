@@ -8,7 +8,7 @@ use std::error::Error;
 use std::fmt;
 
 /// Why an exchange has no response, or not all of it. Its text is one word.
-#[derive(Clone, Copy, Debug, Drop, PartialEq, Eq)]
+#[derive(Clone, Copy, Debug, Drop, PartialEq)]
 pub enum HttpFault {
     /// The reader failed. Nothing was handled or written.
     Read,

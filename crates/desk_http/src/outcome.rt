@@ -9,13 +9,14 @@ use http_requests::{OfficeRouter, Refusal, Status, Unheard, answer_status, hear}
 use json_tree::Scratch;
 use no_memory::NoMemory;
 use office_policy::Handler;
-use review_policy::{Answer, Fault, Request};
+use office_words::Fault;
+use review_policy::{Answer, Request};
 use std::alloc::Global;
 use std::io::Read;
 use streams::{Counted, Unread};
 
 /// What came of an exchange.
-#[derive(Debug, Drop)]
+#[derive(Drop)]
 pub enum ExchangeOutcome {
     /// What came is no request.
     Refused(Refusal),

@@ -3,7 +3,7 @@
 use no_memory::NoMemory;
 
 /// An exchange whose response was written whole.
-#[derive(Clone, Copy, Debug, PartialEq, Eq)]
+#[derive(Clone, Copy)]
 pub struct Served {
     /// The status of the response.
     pub status: u16,

@@ -2,8 +2,8 @@
 use Rattle.std.proofs.Common.{◌≡◌, ◌⊎◌, inl, inr, ℕ, length, Some, None, refl, sym, ap, subst, arith}
 use Rattle.review_policy.specs.declared.ask.Request.{Request}
 use Rattle.review_policy.specs.declared.answer.Reply.{Reply}
-use Rattle.review_policy.specs.declared.fault.Fault.{Fault}
-use Rattle.review_policy.specs.declared.fault.Fault.TheVariants.{NoMemory}
+use Rattle.office_words.specs.declared.fault.Fault.{Fault}
+use Rattle.office_words.specs.declared.fault.Fault.TheVariants.{NoMemory}
 use Rattle.office_policy.specs.Handled.{AreBegun, HasRisen, IsMet, IsUnwritten, LacksMemory, RefusesEvent}
 use Rattle.office_policy.specs.History.{Event, History}
 use Rattle.office_policy.specs.Verdict.{Verdict, accepted, denied, verdict}

@@ -9,10 +9,10 @@ use Rattle.sqlite.specs.Order.{Row}
 use Rattle.sqlite.specs.State.{ExecutesIn, ExecutesInside, IsNotRun, IsRolledBack}
 use Rattle.sqlite.specs.Store.{Ghosts}
 use Rattle.sqlite_trees.specs.declared.error.StoreError.TheVariants as stored
-use Rattle.review_policy.specs.declared.ask.ProfileName.{ProfileName}
-use Rattle.review_policy.specs.declared.fault.Fault.{Fault}
-use Rattle.review_policy.specs.declared.fault.Fault.TheVariants.{NoMemory, Disk, Full, NotAnOffice}
-use Rattle.office_tables.specs.Tables.{Tables, is_profile}
+use Rattle.office_words.specs.declared.name.ProfileName.{ProfileName}
+use Rattle.office_words.specs.declared.fault.Fault.{Fault}
+use Rattle.office_words.specs.declared.fault.Fault.TheVariants.{NoMemory, Disk, Full, NotAnOffice}
+use Rattle.office_words.specs.Tables.{Tables, is_profile}
 use Rattle.office_rows.specs.Faults.{fault_of_error}
 use Rattle.office_rows.specs.Statements.{Statement, FailedIn, IsCause, IsUndone, begun}
 use Rattle.office_store.specs.Refusing.{LacksPlace, LacksPlaceFor, Makes, RefusedForPlace, Write}

@@ -1,7 +1,7 @@
 -- The founding of an office, and what is allowed behind it.
 use Rattle.std.proofs.Common.{◌<◌, ◌^◌, ℕ, replicate, codes, refl, lit<}
 use Rattle.std.proofs.lemmas.List.Elements.{All-replicate}
-use Rattle.review_policy.specs.Words.{is_word}
+use Rattle.office_words.specs.Words.{is_word}
 use Rattle.review_policy.specs.declared.ask.Ask.TheVariants as asks
 use Rattle.review_policy.specs.declared.answer.Reply.TheVariants as replies
 use Rattle.office_policy.specs.Formed.{HasForms}

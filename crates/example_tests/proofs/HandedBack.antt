@@ -11,11 +11,11 @@ use Rattle.sealed_log.specs.Sealed.{IsBody, longest, sealed_text}
 use Rattle.sealed_log.specs.Told.{told}
 use Rattle.sealed_log.specs.declared.log.SealedLog.{SealedLog}
 use Rattle.sealed_log.proofs.ToldFacts.{told_nothing, told_text}
-use Rattle.review_policy.specs.declared.fault.Fault.TheVariants.{Full}
+use Rattle.office_words.specs.declared.fault.Fault.TheVariants.{Full}
 use Rattle.office_policy.specs.History.{History}
 use Rattle.office_policy.specs.Lawful.{IsLawfulHistory}
 use Rattle.office_policy.proofs.SurvivalFacts.{left_itself}
-use Rattle.office_desk.specs.Meant.{meaning_over}
+use Rattle.review_office.specs.Meant.{meaning_over}
 use Rattle.journal.specs.Journal.{Says}
 use Rattle.journal.specs.Lines.{happened, text_of}
 use Rattle.journal.proofs.JournalFacts.{says_one}

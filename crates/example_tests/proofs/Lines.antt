@@ -1,7 +1,7 @@
 -- The lines of a founding, and what they say.
 use Rattle.std.proofs.Common.{◌≡◌, ◌<◌, ◌^◌, ℕ, List, [], ◌∷◌, ◌++◌, length, refl, ap, subst, arith, lit<, length-append}
 use Rattle.std.proofs.lemmas.List.Elements.{All-cons, All-nil, All-replicate}
-use Rattle.review_policy.specs.Words.{is_word}
+use Rattle.office_words.specs.Words.{is_word}
 use Rattle.sealed_log.specs.Sealed.{sealed_text}
 use Rattle.sealed_log.specs.Told.{told}
 use Rattle.sealed_log.proofs.ToldFacts.{told_text}

@@ -12,7 +12,7 @@ use Rattle.sealed_log.specs.declared.log.SealedLog.{SealedLog}
 use Rattle.office_policy.specs.History.{Event, History}
 use Rattle.office_policy.specs.ShowsEvent.{Shows}
 use Rattle.office_policy.specs.TablesOf.{tables_of}
-use Rattle.office_desk.specs.Meant.{meaning_over}
+use Rattle.review_office.specs.Meant.{meaning_over}
 use Rattle.journal.specs.Journal.{EndsWithEvent, IsEntry, Says}
 use Rattle.journal.specs.Journals.{IsOf, goes_on}
 use Rattle.journal.specs.Kept.{Settled, with_stood}

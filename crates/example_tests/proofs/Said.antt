@@ -7,7 +7,7 @@ use Rattle.std.proofs.lemmas.Str.Ascii.{IsAscii-cons, IsAscii-nil}
 use Rattle.std.specs.Char.{is_ascii, is_control}
 use Rattle.std.specs.List.{list_all}
 use Rattle.std.specs.Str.{chars, IsAscii}
-use Rattle.command_host.specs.Plain.{plain, plain_char}
+use Rattle.command_host.specs.Plain.{is_escaped, plain, plain_char}
 use Rattle.command_host.specs.Said.{refusal_line}
 use Rattle.command_host.specs.declared.fault.CommandFault.TheVariants.{Close, Open}
 
@@ -20,7 +20,7 @@ sign_small c is = grind (arith, nat_tests)
 
 sign_plain : (c : ℕ) → is_sign c ≡ true → plain_char c ≡ c ∷ []
 sign_plain c is =
-    let none : is_control c ≡ false = grind (arith, nat_tests) in
+    let none : is_escaped c ≡ false = grind (arith, nat_tests) in
     rw none (encode_ascii c (sign_small c is))
 
 signs_small : (text : List ℕ) → list_all is_sign text ≡ true → IsAscii text

@@ -2,7 +2,7 @@
 use Rattle.std.proofs.Common.{inl, refl}
 use Rattle.review_policy.specs.declared.ask.Request.{Request}
 use Rattle.review_policy.specs.declared.answer.Answer.TheVariants.{Fault}
-use Rattle.review_policy.specs.declared.fault.Fault.TheVariants.{NoMemory}
+use Rattle.office_words.specs.declared.fault.Fault.TheVariants.{NoMemory}
 use Rattle.office_policy.specs.Handled.{IsHandled}
 use Rattle.office_policy.specs.Judging.{IsAnswered}
 use Rattle.office_policy.proofs.SurvivalFacts.{left_itself, survives_none}

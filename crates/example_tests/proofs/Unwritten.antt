@@ -5,7 +5,7 @@ use Rattle.sqlite.specs.Held.{Held}
 use Rattle.sqlite.specs.Store.{Ghosts}
 use Rattle.no_memory.specs.Witness.{witness}
 use Rattle.office_policy.specs.History.{Event}
-use Rattle.office_desk.specs.Meant.{meaning_over}
+use Rattle.review_office.specs.Meant.{meaning_over}
 use Rattle.journal.specs.Journal.{IsEntry}
 use Rattle.journal.specs.Told.{GoesOn, Place, Tells, start}
 use Rattle.journal_faults.specs.declared.refused.Why.TheVariants.{NotFounded}

@@ -14,7 +14,7 @@ use Rattle.office_policy.specs.History.{History}
 use Rattle.office_policy.specs.Lawful.{IsLawfulHistory}
 use Rattle.office_policy.specs.TablesOf.{tables_of}
 use Rattle.office_store.specs.Shown.{Shows, office_row}
-use Rattle.office_desk.specs.Meant.{meaning_over}
+use Rattle.review_office.specs.Meant.{meaning_over}
 use Rattle.journal.specs.Journal.{IsJournalOf}
 use Rattle.journal.proofs.JournalFacts.{one_history}
 use Rattle.journal_verification.specs.declared.verification.KeptSeal.{KeptSeal}

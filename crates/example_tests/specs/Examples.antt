@@ -9,10 +9,10 @@ use Rattle.seccomp_doc.specs.declared.action.Action.TheVariants.{Allow, Errno}
 use Rattle.seccomp_doc.specs.declared.compare.Op.TheVariants.{Equal}
 use Rattle.seccomp_doc.specs.Filter.{FilterValue}
 use Rattle.profile_text.specs.Digest.{digest_of}
-use Rattle.review_policy.specs.declared.answer.ProfileRevision.{ProfileRevision}
-use Rattle.review_policy.specs.declared.fault.Fault.{Fault}
-use Rattle.review_policy.specs.declared.revision.State.TheVariants.{Open}
-use Rattle.office_tables.specs.declared.row.UserRow.{UserRow}
+use Rattle.office_words.specs.declared.listed.ProfileRevision.{ProfileRevision}
+use Rattle.office_words.specs.declared.fault.Fault.{Fault}
+use Rattle.office_words.specs.declared.revision.State.TheVariants.{Open}
+use Rattle.office_words.specs.declared.row.UserRow.{UserRow}
 use Rattle.office_store.specs.Shown.{IsIdle}
 use Rattle.office_founding.specs.declared.fault.OpeningFault.{OpeningFault}
 use Rattle.office_founding.specs.declared.fault.OpeningFault.TheVariants.{NoIndex}

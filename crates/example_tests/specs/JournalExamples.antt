@@ -8,12 +8,12 @@ use Rattle.sqlite.specs.Store.{Ghosts}
 use Rattle.sqlite_disk.specs.declared.Disk.{Ghosts as DiskGhosts}
 use Rattle.sealed_log.specs.Sealed.{seal_of, sealed_text}
 use Rattle.sealed_log.specs.declared.log.SealedLog.{SealedLog}
-use Rattle.review_policy.specs.declared.fault.Fault.TheVariants.{Disk}
+use Rattle.office_words.specs.declared.fault.Fault.TheVariants.{Disk}
 use Rattle.office_policy.specs.Handled.{HasRisen}
 use Rattle.office_policy.specs.History.{History}
 use Rattle.office_policy.specs.ShowsEvent.{Shows}
 use Rattle.office_policy.specs.TablesOf.{tables_of}
-use Rattle.office_desk.specs.Meant.{meaning_over}
+use Rattle.review_office.specs.Meant.{meaning_over}
 use Rattle.journal.specs.Lines.{happened, strike, done, text_of}
 use Rattle.journal.specs.Told.{Place}
 use Rattle.journal.specs.Writing.{Writing}

@@ -1,6 +1,6 @@
 -- What a route and a body ask.
 use Rattle.std.specs.Prelude.{ℕ, List, [], ◌∷◌, Option, Some, None}
-use Rattle.review_policy.specs.declared.ask.ProfileName.{ProfileName}
+use Rattle.office_words.specs.declared.name.ProfileName.{ProfileName}
 use Rattle.json_requests.specs.Bodies.{enrol_in, vote_in}
 use Rattle.json_requests.specs.Plain.{PlainAsk, submit, list, act_on_revision, see_revision}
 use Rattle.json_requests.specs.Plain.{act_on_profile, see_profile, me, revisions as newest}

@@ -5,7 +5,7 @@ use Rattle.std.specs.Prelude.{if◌then◌else◌, codes, bytes_eq, ⊤}
 use Rattle.std.specs.Char.{to_ascii_lowercase}
 use Rattle.std.specs.Str.Parse.{digits_value}
 use Rattle.httparse.specs.Spans.{IsWithin, span_bytes}
-use Rattle.review_policy.specs.Words.{is_token}
+use Rattle.office_words.specs.Words.{is_token}
 use Rattle.http_requests.specs.Numbers.{is_number}
 use Rattle.http_requests.specs.declared.field.Found.{Found}
 use Rattle.http_requests.specs.declared.field.Found.TheVariants.{Absent, One, Several}

@@ -4,7 +4,7 @@ use Rattle.std.specs.Prelude.{Option, Some, None, if◌then◌else◌}
 use Rattle.std.specs.List.{list_all}
 use Rattle.std.specs.Char.{is_ascii_digit}
 use Rattle.std.specs.Str.Parse.{digits_value}
-use Rattle.review_policy.specs.Rules.{max_revisions}
+use Rattle.office_words.specs.Limits.{max_revisions}
 
 -- one or more decimal digits
 abbrev pub is_number : List ℕ → Bool

@@ -1,8 +1,8 @@
 -- What a target names, and what a method asks of it.
 use Rattle.std.specs.Prelude.{ℕ, List, Option, Some, None, option_map, option_and_then, Result}
 use Rattle.std.specs.Prelude.{Err, if◌then◌else◌}
-use Rattle.review_policy.specs.Words.{is_word}
-use Rattle.review_policy.specs.declared.ask.ProfileName.{ProfileName}
+use Rattle.office_words.specs.Words.{is_word}
+use Rattle.office_words.specs.declared.name.ProfileName.{ProfileName}
 use Rattle.json_requests.specs.Members.{◌>>=◌}
 use Rattle.http_requests.specs.Methods.{method_named, with_method}
 use Rattle.http_requests.specs.Numbers.{revision_number_of}

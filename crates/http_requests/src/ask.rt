@@ -7,7 +7,8 @@ ghost use Rattle.http_requests.specs.Asks.{asked_of, of_profile, of_revision, wi
 use crate::route::{ProfileAsk, RevisionAsk, Route};
 use json_requests::{LineFault, read_enrol, read_vote};
 use json_tree::Scratch;
-use review_policy::{Ask, ProfileName};
+use office_words::ProfileName;
+use review_policy::Ask;
 use std::alloc::Global;
 
 // What has no body, with this one.

@@ -8,7 +8,7 @@ ghost use Rattle.http_requests.specs.Fields.{IsFoundWithin};
 use httparse::spans::{HeaderSpan, Span};
 
 /// The value of the fields of a name.
-#[derive(Clone, Copy, Debug)]
+#[derive(Clone, Copy)]
 pub(crate) enum Found {
     /// There is no such field.
     Absent,

@@ -3,7 +3,7 @@
 use crate::route::{ProfileAsk, RevisionAsk};
 
 /// What a route asks for, before its parameters are looked at.
-#[derive(Clone, Copy, Debug, PartialEq, Eq)]
+#[derive(Clone, Copy)]
 pub(crate) enum Form {
     /// To enrol a user.
     OfUsers,

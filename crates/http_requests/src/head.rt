@@ -11,12 +11,12 @@ use crate::refusal::Refusal;
 use crate::token::token_in;
 use httparse::Status;
 use httparse::spans::{EMPTY_HEADER_SPAN, HeaderSpan, Span, parse_request};
-use review_policy::Token;
+use office_words::Token;
 use std::alloc::{AllocError, Global};
 
 /// The parts of a head, where they stand in its buffer, and the length of the body that it
 /// announces.
-#[derive(Clone, Copy, Debug)]
+#[derive(Clone, Copy)]
 pub(crate) struct Head {
     /// The method, as written.
     pub(crate) method: Span,

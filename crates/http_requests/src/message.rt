@@ -7,7 +7,7 @@ use crate::status::Status;
 use std::alloc::{AllocError, Global};
 
 /// What a body is (RFC 9110, section 8.3).
-#[derive(Clone, Copy, Debug, PartialEq, Eq)]
+#[derive(Clone, Copy)]
 pub(crate) enum ContentType {
     /// `application/json`, of answers and documents.
     Json,

@@ -7,7 +7,7 @@ ghost use Rattle.http_requests.specs.Methods.{is_method, method_named, only};
 use crate::same::is_same;
 
 /// The method of a request (RFC 9110, section 9).
-#[derive(Clone, Copy, Debug, PartialEq, Eq)]
+#[derive(Clone, Copy)]
 pub enum Method {
     /// To be shown something.
     Get,
@@ -51,7 +51,7 @@ impl Method {
 }
 
 /// The methods that a target has.
-#[derive(Clone, Copy, Debug, PartialEq, Eq)]
+#[derive(Clone, Copy)]
 pub enum Methods {
     Get,
     Post,

@@ -5,7 +5,7 @@ ghost use Rattle.http_requests.specs.Numbers.{revision_number_of};
 ghost use Rattle.http_requests.specs.Targets.{name_of, word_of};
 
 use crate::number::decimal;
-use review_policy::{MAX_REVISIONS, ProfileName, Word, WordFault};
+use office_words::{MAX_REVISIONS, ProfileName, Word, WordFault};
 use std::alloc::{AllocError, Global};
 use std::str;
 

@@ -7,7 +7,7 @@ use crate::method::Methods;
 use crate::status::Status;
 
 /// Why what came over HTTP is no request, in the order in which it is looked at.
-#[derive(Clone, Copy, Debug, PartialEq, Eq)]
+#[derive(Clone, Copy)]
 pub enum Refusal {
     /// No head ends within the first 8,192 bytes (RFC 9110, section 5.4, and RFC 9112, section 3: a
     /// server limits what it reads of fields and of a request line).

@@ -6,10 +6,10 @@ ghost use Rattle.http_requests.specs.Methods.{by_method, with_method};
 use crate::method::{Method, Methods};
 use crate::refusal::Refusal;
 use crate::route::Route;
-use review_policy::ProfileName;
+use office_words::ProfileName;
 
 /// What a target names (RFC 9110, section 3.1).
-#[derive(Debug, Drop)]
+#[derive(Drop)]
 pub(crate) enum Resource {
     /// What this route asks for, by its one method.
     One(Route),

@@ -8,7 +8,8 @@ ghost use Rattle.no_memory.specs.Witness.{witness};
 use crate::message::{ContentType, message_text};
 use crate::status::Status;
 use json_requests::{answer_text, bad_text};
-use review_policy::{Answer, Fault, Reply};
+use office_words::Fault;
+use review_policy::{Answer, Reply};
 use std::alloc::{AllocError, Global};
 
 /// The status of the response to an answer.

@@ -4,10 +4,11 @@ ghost use Rattle.std.specs.Prelude.{◌≡◌};
 ghost use Rattle.http_requests.specs.Methods.{method_of, profile_method, revision_method};
 
 use crate::method::Method;
-use review_policy::{ProfileAct, ProfileName, ProfileView, RevisionAct, RevisionView, Word};
+use office_words::{ProfileName, Word};
+use review_policy::{ProfileAct, ProfileView, RevisionAct, RevisionView};
 
 /// What a target and a method ask for.
-#[derive(Debug, Drop)]
+#[derive(Drop)]
 pub(crate) enum Route {
     /// To enrol a user.
     Users,
@@ -26,7 +27,7 @@ pub(crate) enum Route {
 }
 
 /// What may be asked of a profile.
-#[derive(Clone, Copy, Debug, PartialEq, Eq)]
+#[derive(Clone, Copy)]
 pub(crate) enum ProfileAsk {
     /// To have this done to it.
     Act(ProfileAct),
@@ -35,7 +36,7 @@ pub(crate) enum ProfileAsk {
 }
 
 /// What may be asked of a revision.
-#[derive(Clone, Copy, Debug, PartialEq, Eq)]
+#[derive(Clone, Copy)]
 pub(crate) enum RevisionAsk {
     /// To vote on it.
     Vote,

@@ -8,7 +8,7 @@ use crate::method::Methods;
 use http::StatusCode;
 
 /// The status of a response (RFC 9110, section 15).
-#[derive(Clone, Copy, Debug, PartialEq, Eq)]
+#[derive(Clone, Copy)]
 pub enum Status {
     /// 200: the request was done.
     Done,

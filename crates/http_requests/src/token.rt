@@ -1,11 +1,11 @@
 //! The token that a field `Authorization` shows.
 
 ghost use Rattle.std.specs.Prelude.{◌≡◌, None, Some, IfOk, drop, if◌then◌else◌, option_map};
-ghost use Rattle.review_policy.specs.Words.{is_token};
+ghost use Rattle.office_words.specs.Words.{is_token};
 ghost use Rattle.http_requests.specs.Fields.{is_bearer, token_in};
 
 use crate::field::same_in_any_case;
-use review_policy::{Token, WordFault};
+use office_words::{Token, WordFault};
 use std::alloc::{AllocError, Global};
 use std::str;
 

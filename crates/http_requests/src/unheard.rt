@@ -6,7 +6,7 @@ use std::alloc::AllocError;
 use streams::Unread;
 
 /// Why no request was heard.
-#[derive(Clone, Copy, Debug, PartialEq, Eq)]
+#[derive(Clone, Copy)]
 pub enum Unheard {
     /// What came is none.
     Refused(Refusal),

@@ -2,8 +2,8 @@
 use Rattle.std.proofs.Common.{◌⊎◌, inl, inr, ◌≡◌, ◌∙◌, ◌≤◌, ◌+◌, [], ◌∷◌, ◌++◌, ℕ, List, Bool, true, false, not, Ok, Err, IsTrue, Option, Some, None, ◌-◌, ◌^◌, ◌==◌, if◌then◌else◌, length, min, refl, sym, ap, subst, arith, le_trans, append-nil, append_assoc}
 use Rattle.std.proofs.lemmas.Bool.{and_parts, and_from}
 use Rattle.review_policy.specs.declared.ask.Request.{Request}
-use Rattle.review_policy.specs.declared.fault.Fault.{Fault as TheFault}
-use Rattle.review_policy.specs.declared.fault.Fault.TheVariants as faults
+use Rattle.office_words.specs.declared.fault.Fault.{Fault as TheFault}
+use Rattle.office_words.specs.declared.fault.Fault.TheVariants as faults
 use Rattle.review_policy.specs.declared.answer.Answer.{Answer}
 use Rattle.review_policy.specs.declared.answer.Answer.TheVariants.{Done, Fault}
 use Rattle.office_policy.specs.declared.judge.Allowed.{Allowed}

@@ -14,10 +14,10 @@ use Rattle.profile_text.proofs.ListedNames.{names_listed}
 use Rattle.profile_text.proofs.NameFacts.{listed_set}
 use Rattle.profile_text.specs.Sets.{caps_of}
 use Rattle.review_policy.specs.Acts.{profile_act_word, revision_act_word}
-use Rattle.review_policy.specs.Digests.{digest_from_hex, is_lower_digit}
+use Rattle.office_words.specs.Digests.{digest_from_hex, is_lower_digit}
 use Rattle.review_policy.specs.declared.act.ProfileAct.{ProfileAct}
 use Rattle.review_policy.specs.declared.act.RevisionAct.{RevisionAct}
-use Rattle.review_policy.specs.declared.ask.ProfileName.{ProfileName}
+use Rattle.office_words.specs.declared.name.ProfileName.{ProfileName}
 use Rattle.json_requests.specs.Members.{approves as vote_of, digest_at, if_revision, name_at, revision_at, roles_at, vote_at, word_at}
 use Rattle.office_policy.specs.Formed.{IsWord, IsDigest, IsName, IsNumber}
 use Rattle.office_policy.specs.History.{founded, enrolled, submitted, voted, on_revision, on_profile}

@@ -17,14 +17,14 @@ use Rattle.profile_text.proofs.ReadsFacts.{reads_from}
 use Rattle.profile_text.specs.Reading.{reading_of}
 use Rattle.profile_text.specs.declared.profile.Profile.{Profile}
 use Rattle.review_policy.specs.Acts.{profile_act_word, revision_act_word}
-use Rattle.review_policy.specs.Role.{has_role}
-use Rattle.review_policy.specs.WordTables.{all_roles, role_word}
-use Rattle.review_policy.specs.Words.{is_word, is_word_byte}
-use Rattle.review_policy.specs.declared.role.Role.{Role}
+use Rattle.office_words.specs.Role.{has_role}
+use Rattle.office_words.specs.WordTables.{all_roles, role_word}
+use Rattle.office_words.specs.Words.{is_word, is_word_byte}
+use Rattle.office_words.specs.declared.role.Role.{Role}
 use Rattle.sealed_log.specs.Sealed.{longest, seal_on, sealed_line, sealed_with}
 use Rattle.sealed_log.proofs.SealFacts.{length-sealed_line}
 use Rattle.office_policy.proofs.LawFacts.{allowed_follows}
-use Rattle.review_policy.specs.declared.ask.ProfileName.{ProfileName}
+use Rattle.office_words.specs.declared.name.ProfileName.{ProfileName}
 use Rattle.office_policy.specs.Formed.{IsName, IsNumber, IsWord}
 use Rattle.office_policy.specs.History.{Event, History, did, founded, enrolled, submitted, voted, on_revision, on_profile}
 use Rattle.office_policy.specs.Lawful.{IsAllowed, IsFounding}
@@ -32,7 +32,8 @@ use Rattle.office_policy.specs.EventForms.{HasForms}
 use Rattle.journal.specs.Forms.{IsFormed}
 use Rattle.journal.specs.Journal.{IsEntry}
 use Rattle.review_sheet.specs.Review.{vote_word}
-use Rattle.journal.specs.Lines.{Line, happened, strike, done, line_data, of_profile, of_revision, role_words, text_of, words_among}
+use Rattle.office_words.specs.WordTables.{role_words, words_among}
+use Rattle.journal.specs.Lines.{Line, happened, strike, done, line_data, of_profile, of_revision, text_of}
 use Rattle.journal.proofs.ActFacts.{profile_act_room, revision_act_room}
 use Rattle.journal.proofs.NoFeeds.{HasSmall, ItemsHaveSmall, MembersHaveSmall, line_small, no_feed}
 use Rattle.journal.proofs.Tables.{holds_below, each_below}

@@ -12,7 +12,7 @@ use Rattle.sealed_log.specs.Told.{told}
 use Rattle.sealed_log.specs.declared.fault.LogFault.{LogFault}
 use Rattle.sealed_log.specs.declared.fault.LogFault.TheVariants as logs
 use Rattle.sealed_log.specs.declared.log.SealedLog.{SealedLog}
-use Rattle.review_policy.specs.declared.fault.Fault.{Fault}
+use Rattle.office_words.specs.declared.fault.Fault.{Fault}
 use Rattle.journal.specs.Logs.{FailsAs, fault_meant, in_log, told_meant}
 use Rattle.journal.specs.Writing.{IsAppended, IsMet, IsWritten}
 use Rattle.no_memory.specs.Witness.{witness}

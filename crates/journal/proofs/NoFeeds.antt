@@ -15,7 +15,8 @@ use Rattle.office_policy.specs.History.{founded, enrolled, submitted, voted, on_
 use Rattle.office_policy.specs.Formed.{IsNumber}
 use Rattle.streams.specs.Lines.{NoFeed}
 use Rattle.journal.specs.Forms.{IsFormed}
-use Rattle.journal.specs.Lines.{Line, happened, strike, done, line_data, role_words, text_of}
+use Rattle.office_words.specs.WordTables.{role_words}
+use Rattle.journal.specs.Lines.{Line, happened, strike, done, line_data, text_of}
 use Rattle.journal.proofs.Tables.{holds_below, each_below}
 
 -- no byte is that of a control character

@@ -19,17 +19,18 @@ use Rattle.cap_sets.specs.Capability.{cap_names, names_from, names_of}
 use Rattle.profile_text.proofs.Printing.{MembersPrint, Prints, deeper, end_prints, list_prints, member_prints, number_prints, object_prints, text_prints}
 use Rattle.profile_text.specs.Text.{set_data, texts_data}
 use Rattle.review_policy.specs.Acts.{profile_act_word, revision_act_word}
-use Rattle.review_policy.specs.Role.{has_role}
-use Rattle.review_policy.specs.Words.{is_word, is_word_byte}
-use Rattle.review_policy.specs.WordTables.{all_roles, role_word}
-use Rattle.review_policy.specs.declared.ask.ProfileName.{ProfileName}
-use Rattle.review_policy.specs.declared.role.Role.{Role}
-use Rattle.review_policy.specs.declared.role.Role.TheVariants.{Registrar, Author, Reviewer, Security, Issuer, Machine}
+use Rattle.office_words.specs.Role.{has_role}
+use Rattle.office_words.specs.Words.{is_word, is_word_byte}
+use Rattle.office_words.specs.WordTables.{all_roles, role_word}
+use Rattle.office_words.specs.declared.name.ProfileName.{ProfileName}
+use Rattle.office_words.specs.declared.role.Role.{Role}
+use Rattle.office_words.specs.declared.role.Role.TheVariants.{Registrar, Author, Reviewer, Security, Issuer, Machine}
 use Rattle.office_policy.specs.Formed.{IsWord, IsName, IsNumber}
 use Rattle.office_policy.specs.History.{founded, enrolled, submitted, voted, on_revision, on_profile}
 use Rattle.journal.specs.Forms.{IsFormed}
 use Rattle.review_sheet.specs.Review.{vote_word}
-use Rattle.journal.specs.Lines.{Line, happened, strike, done, line_data, of_profile, of_revision, role_words, words_among}
+use Rattle.office_words.specs.WordTables.{role_words, words_among}
+use Rattle.journal.specs.Lines.{Line, happened, strike, done, line_data, of_profile, of_revision}
 use Rattle.journal.proofs.ActFacts.{profile_act_ascii, revision_act_ascii}
 
 -- ---- parts

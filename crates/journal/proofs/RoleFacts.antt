@@ -4,12 +4,12 @@ use Rattle.std.specs.Prelude.{filter}
 use Rattle.std.specs.Int.RustNames.{bit_or}
 use Rattle.serde_json.specs.Data.{string}
 use Rattle.serde_json.specs.View.{items_of}
-use Rattle.review_policy.specs.Role.{has_role, place_of}
-use Rattle.review_policy.specs.WordTables.{all_roles, role_word}
-use Rattle.review_policy.specs.declared.role.Role.{Role}
-use Rattle.review_policy.proofs.WordFacts.{known_role}
+use Rattle.office_words.specs.Role.{has_role, place_of}
+use Rattle.office_words.specs.WordTables.{all_roles, role_word}
+use Rattle.office_words.specs.declared.role.Role.{Role}
+use Rattle.office_words.proofs.WordFacts.{known_role}
 use Rattle.json_requests.specs.Members.{roles_of}
-use Rattle.journal.specs.Lines.{role_words, words_among}
+use Rattle.office_words.specs.WordTables.{role_words, words_among}
 use Rattle.journal.proofs.Tables.{each_below}
 
 -- the set of those of these roles that are in a set

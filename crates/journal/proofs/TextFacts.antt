@@ -1,18 +1,14 @@
 -- Lines that are written token by token.
-use Rattle.std.proofs.Common.{◌≡◌, ◌∙◌, ℕ, ◌+◌, ◌<◌, ◌≤◌, List, [], ◌∷◌, ◌++◌, Option, Some, None, option_map, length, get_or, drop, map, true, false, cond, refl, sym, ap, append_assoc}
-use Rattle.std.proofs.lemmas.List.{drop_all, drop_more}
-use Rattle.std.specs.Prelude.{codes, filter}
+use Rattle.std.proofs.Common.{◌≡◌, ◌∙◌, ℕ, List, ◌∷◌, ◌++◌, Option, Some, None, option_map, refl, ap, append-nil}
+use Rattle.std.specs.Prelude.{codes}
 use Rattle.hex.specs.Hex.{encode_lower}
 use Rattle.json.specs.Token.{Token}
 use Rattle.json.specs.Tree.{members_tokens}
-use Rattle.serde_json.specs.Data.{Members, no_members, string}
+use Rattle.serde_json.specs.Data.{Members, member, no_members, string}
 use Rattle.serde_json.specs.Written.{members_outline}
-use Rattle.json_tree.specs.Tokens.{Appends, member_tokens, open_tokens}
-use Rattle.json_tree.proofs.Writing.{Leaves, all_tokens, leaves_none}
-use Rattle.review_policy.specs.Role.{has_role}
-use Rattle.review_policy.specs.WordTables.{role_word}
-use Rattle.review_policy.specs.declared.role.Role.{Role}
-use Rattle.journal.specs.Lines.{deed_members, kind_members, words_among}
+use Rattle.json_tree.specs.Tokens.{Appends, member_tokens, open_tokens, tokens_of}
+use Rattle.json_requests.specs.Answers.{roles_data}
+use Rattle.journal.specs.Lines.{deed_members, kind_members}
 
 -- ---- members that other members follow
 
@@ -37,31 +33,7 @@ pub deed_tokens : {A : Type 0} (f : A → List ℕ) (caller : List ℕ) (digest 
 deed_tokens f caller None word line = refl
 deed_tokens f caller (Some digest) word line = refl
 
--- ---- the words of roles
-
-role_step : (roles : ℕ) (r : Role) (rest : List Role) → all_tokens string (words_among roles (r ∷ rest)) ≡ all_tokens string (words_among roles (r ∷ [])) ++ all_tokens string (words_among roles rest)
-role_step roles r rest =
-    elim (has_role roles r) as (λ b. all_tokens string (map role_word (cond b (r ∷ filter (has_role roles) rest) (filter (has_role roles) rest)))
-    ≡ all_tokens string (map role_word (cond b (r ∷ []) [])) ++ all_tokens string (map role_word (filter (has_role roles) rest))) [
-      | true ↦ refl
-      | false ↦ refl
-    ]
-
--- with one more written, what is left is less by it
-pub role_written : (roles : ℕ) (among : List Role) (i : ℕ) (d : Role) {a b c : List Token} → i < length among
-    → Leaves string (words_among roles among) (words_among roles (drop i among)) a b → Appends b c (all_tokens string (words_among roles (get_or among i d ∷ [])))
-    → Leaves string (words_among roles among) (words_among roles (drop (i + 1) among)) a c
-role_written roles among i d {a} {b} {c} lt before more =
-    let r = get_or among i d in
-    let rest = all_tokens string (words_among roles (drop (i + 1) among)) in
-    record {
-      tokens =
-          ap (λ ts. ts ++ rest) more.tokens
-          ∙ append_assoc b (all_tokens string (words_among roles (r ∷ []))) rest
-          ∙ ap (λ ts. b ++ ts) (sym (role_step roles r (drop (i + 1) among)) ∙ ap (λ rs. all_tokens string (words_among roles rs)) (sym (drop_more among i d lt)))
-          ∙ before.tokens;
-    }
-
-pub roles_written : (roles : ℕ) (among : List Role) (i : ℕ) {a b : List Token} → length among ≤ i
-    → Leaves string (words_among roles among) (words_among roles (drop i among)) a b → Appends a b (all_tokens string (words_among roles among))
-roles_written roles among i ge before = leaves_none before (ap (words_among roles) (drop_all i among ge))
+-- the roles of a set, with nothing behind them
+pub roles_alone : (roles : ℕ) {a b : List Token} → Appends a b (open_tokens (member (codes "roles") (roles_data roles) no_members))
+    → Appends a b (member_tokens (codes "roles") (Some (roles_data roles)))
+roles_alone roles {a} more = record { tokens = more.tokens ∙ ap (λ ts. a ++ Token.key (codes "roles") ∷ ts) (append-nil (tokens_of (roles_data roles))) }

@@ -3,11 +3,11 @@
 use Rattle.std.proofs.Common.{◌≡◌, ◌∙◌, ◌<◌, ℕ, List, [], ◌∷◌, Some, None, refl, sym, ap, subst}
 use Rattle.review_policy.specs.declared.act.Effect.{Effect}
 use Rattle.review_policy.specs.declared.act.Effect.TheVariants.{Issues, Withdraws, Adopts}
-use Rattle.review_policy.specs.declared.ask.ProfileName.{ProfileName}
-use Rattle.review_policy.specs.declared.role.Role.TheVariants.{Security}
+use Rattle.office_words.specs.declared.name.ProfileName.{ProfileName}
+use Rattle.office_words.specs.declared.role.Role.TheVariants.{Security}
 use Rattle.review_policy.specs.Acts.{effect_of}
-use Rattle.office_tables.specs.Lists.{holds_role}
-use Rattle.office_tables.specs.Tables.{Tables}
+use Rattle.office_words.specs.Lists.{holds_role}
+use Rattle.office_words.specs.Tables.{Tables}
 use Rattle.office_policy.specs.History.{founded, enrolled, submitted, voted, on_profile, on_revision, Event, History}
 use Rattle.office_policy.specs.Users.{user_of}
 use Rattle.office_policy.specs.Revisions.{revision_of, state_in}

@@ -2,7 +2,7 @@
 -- members of an object and leaves out spaces.
 use Rattle.std.specs.Prelude.{ℕ, ◌+◌, ◌^◌, List, [], ◌∷◌, ◌++◌, false, codes, replicate}
 use Rattle.review_policy.specs.declared.act.ProfileAct.TheVariants.{Hold, Release}
-use Rattle.review_policy.specs.declared.ask.ProfileName.{ProfileName}
+use Rattle.office_words.specs.declared.name.ProfileName.{ProfileName}
 use Rattle.office_policy.specs.History.{founded, enrolled, submitted, voted, issued, withdrawn}
 use Rattle.office_policy.specs.History.{adopted, on_profile}
 use Rattle.journal.specs.Lines.{Line, done, happened}

@@ -8,7 +8,7 @@ use Rattle.std.proofs.lemmas.Grind.{flat_map-append}
 use Rattle.review_policy.specs.declared.ask.Request.{Request}
 use Rattle.review_policy.specs.declared.answer.Answer.{Answer}
 use Rattle.review_policy.specs.declared.answer.Answer.TheVariants as answers
-use Rattle.review_policy.specs.declared.fault.Fault.{Fault}
+use Rattle.office_words.specs.declared.fault.Fault.{Fault}
 use Rattle.office_policy.specs.History.{Event, History}
 use Rattle.office_policy.specs.Meaning.{Meaning, Entry, no_entry, entry_of, struck_entry_of}
 use Rattle.office_policy.specs.Handled.{Stands, Survives}

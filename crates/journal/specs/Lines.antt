@@ -1,18 +1,15 @@
 -- The lines of a journal: compact JSON, with the members of each object in byte order of their
 -- names. What happened has the number of its line where it is told, and none in the journal.
-use Rattle.std.specs.Prelude.{Bool, ℕ, List, Option, Some, None, map, filter, option_map, codes}
+use Rattle.std.specs.Prelude.{Bool, ℕ, List, Option, Some, None, option_map, codes}
 use Rattle.hex.specs.Hex.{encode_lower}
 use Rattle.serde_json.specs.Data.{Data, string, number, unsigned, object, Members, no_members}
 use Rattle.serde_json.specs.Data.{member}
 use Rattle.serde_json.specs.Written.{compact_text}
-use Rattle.profile_text.specs.Text.{member_if, set_data, texts_data}
+use Rattle.profile_text.specs.Text.{member_if, set_data}
 use Rattle.review_policy.specs.Acts.{profile_act_word, revision_act_word}
-use Rattle.review_policy.specs.Role.{has_role}
-use Rattle.review_policy.specs.WordTables.{all_roles, role_word}
-use Rattle.review_policy.specs.declared.ask.ProfileName.{ProfileName}
-use Rattle.review_policy.specs.declared.role.Role.{Role}
+use Rattle.office_words.specs.declared.name.ProfileName.{ProfileName}
 use Rattle.review_sheet.specs.Review.{vote_word}
-use Rattle.json_requests.specs.Answers.{text_member, number_member, digest_member}
+use Rattle.json_requests.specs.Answers.{text_member, number_member, digest_member, roles_data}
 use Rattle.office_policy.specs.History.{Event, founded, enrolled, submitted, voted}
 use Rattle.office_policy.specs.History.{on_revision, on_profile}
 
@@ -22,14 +19,6 @@ pub data Line : Type 0 where
   happened : Event → Line
   strike : Line
   done : ℕ → Line
-
--- the words of those of these roles that are in a set
-abbrev pub words_among : ℕ → List Role → List (List ℕ)
-words_among roles among = map role_word (filter (has_role roles) among)
-
--- the words of the roles in a set
-abbrev pub role_words : ℕ → List (List ℕ)
-role_words roles = words_among roles all_roles
 
 -- the word of what happened: that of the request that it was, and of a founding and of a line on the
 -- one before it a word of its own. Where it is told, the number of its line
@@ -83,7 +72,7 @@ founding_data line name team digest listed =
 abbrev pub enrolment_data : Option ℕ → (caller name team : List ℕ) → ℕ → List ℕ → Data
 enrolment_data line caller name team roles digest =
     object (deed_members caller (Some digest) (codes "enrol") line
-    (member (codes "roles") (texts_data (role_words roles)) (user_members name team no_members)))
+    (member (codes "roles") (roles_data roles) (user_members name team no_members)))
 
 -- a vote
 abbrev pub vote_data : Option ℕ → List ℕ → ProfileName → ℕ → List ℕ → Bool → Data

@@ -7,8 +7,8 @@ use Rattle.sealed_log.specs.Log.{bodies_of}
 use Rattle.sealed_log.specs.declared.fault.LogFault.{LogFault}
 use Rattle.sealed_log.specs.declared.fault.LogFault.TheVariants as logs
 use Rattle.sealed_log.specs.declared.log.SealedLog.{SealedLog}
-use Rattle.review_policy.specs.declared.fault.Fault.{Fault}
-use Rattle.review_policy.specs.declared.fault.Fault.TheVariants as faults
+use Rattle.office_words.specs.declared.fault.Fault.{Fault}
+use Rattle.office_words.specs.declared.fault.Fault.TheVariants as faults
 use Rattle.office_policy.specs.Handled.{HasRisen}
 use Rattle.journal.specs.Writing.{Writing}
 

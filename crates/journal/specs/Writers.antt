@@ -5,7 +5,7 @@ use Rattle.std.specs.declared.alloc.Global.{Global}
 use Rattle.review_policy.specs.declared.act.Effect.{Effect}
 use Rattle.review_policy.specs.declared.act.Effect.TheVariants.{Issues, Withdraws, Adopts}
 use Rattle.review_policy.specs.Acts.{effect_of}
-use Rattle.office_tables.specs.Tables.{Tables}
+use Rattle.office_words.specs.Tables.{Tables}
 use Rattle.office_policy.specs.Happened.{event_meant}
 use Rattle.office_policy.specs.History.{Event, History, founded, enrolled, submitted, voted}
 use Rattle.office_policy.specs.History.{on_revision, on_profile}

@@ -3,8 +3,8 @@ use Rattle.std.specs.Prelude.{◌≡◌, ◌⊎◌, ◌≤◌, ◌-◌, ◌^◌,
 use Rattle.std.specs.Prelude.{Result, Ok, Err, IsTrue, ⊤}
 use Rattle.sealed_log.specs.Sealed.{sealed_text, sealed_with, seal_of}
 use Rattle.sealed_log.specs.Told.{HasTail}
-use Rattle.review_policy.specs.declared.fault.Fault.{Fault}
-use Rattle.review_policy.specs.declared.fault.Fault.TheVariants as faults
+use Rattle.office_words.specs.declared.fault.Fault.{Fault}
+use Rattle.office_words.specs.declared.fault.Fault.TheVariants as faults
 use Rattle.office_policy.specs.Handled.{HasRisen}
 
 -- what is meant by a value to which the bodies of sealed lines are written

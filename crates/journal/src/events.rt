@@ -17,7 +17,7 @@ use std::io::BufRead;
 use std::mem::replace;
 
 /// An event that stands, with the number of its line, from 1.
-#[derive(Debug, Drop)]
+#[derive(Drop)]
 pub struct Placed {
     pub line: u64,
     pub event: Event,

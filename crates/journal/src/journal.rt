@@ -4,7 +4,7 @@ ghost use Rattle.std.specs.Prelude.{◌≡◌, [], ◌∷◌};
 ghost use Rattle.sealed_log.specs.Sealed.{IsBody};
 ghost use Rattle.journal.specs.Writing.{IsAppended, Writing};
 
-use review_policy::Fault;
+use office_words::Fault;
 use std::alloc::Global;
 
 /// What the lines of a journal are written to, each sealed.

@@ -7,7 +7,8 @@ ghost use Rattle.journal.specs.Writing.{IsAppended};
 use crate::journal::Journal;
 use crate::print::{change_text, done_text};
 use office_policy::{Allowed, Handler, Judge, Judgement};
-use review_policy::{Answer, Fault, Request};
+use office_words::Fault;
+use review_policy::{Answer, Request};
 use sealed_log::is_body;
 use std::alloc::Global;
 

@@ -5,7 +5,7 @@ ghost use Rattle.std.specs.Prelude.{◌≡◌, ◌≤◌, ◌<◌, ◌^◌, [], 
 ghost use Rattle.std.specs.Prelude.{IfSome, Result, Some, None, ⊤};
 ghost use Rattle.review_policy.specs.declared.answer.Answer.{Answer};
 ghost use Rattle.review_policy.specs.declared.ask.Request.{Request};
-ghost use Rattle.review_policy.specs.declared.fault.Fault.{Fault};
+ghost use Rattle.office_words.specs.declared.fault.Fault.{Fault};
 ghost use Rattle.sealed_log.specs.Sealed.{longest, sealed_with};
 ghost use Rattle.sealed_log.specs.Input.{IsOutside};
 ghost use Rattle.sealed_log.specs.declared.unreadable.Unreadable.{Unreadable};

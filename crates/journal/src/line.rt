@@ -3,7 +3,7 @@
 use office_policy::Event;
 
 /// A line of a journal.
-#[derive(Debug, Drop)]
+#[derive(Drop)]
 pub enum Line {
     /// This happened.
     Event(Event),

@@ -4,7 +4,7 @@ ghost use Rattle.std.specs.Prelude.{◌≡◌};
 ghost use Rattle.journal.specs.Logs.{told_meant};
 
 use crate::journal::Journal;
-use review_policy::Fault;
+use office_words::Fault;
 use sealed_log::{LogFault, SealedLog};
 use sqlite_disk::Disk;
 use std::alloc::Global;

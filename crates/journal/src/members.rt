@@ -1,20 +1,20 @@
 //! What happened, as JSON that is written a token at a time: what the lines of a journal share with
 //! what is told of one. Where it is told, it has the number of its line.
 
-ghost use Rattle.std.specs.Prelude.{◌∷◌, [], OnOk, Some, codes, flat_map, option_map};
+ghost use Rattle.std.specs.Prelude.{OnOk, Some, codes, option_map};
 ghost use Rattle.hex.specs.Hex.{encode_lower};
 ghost use Rattle.serde_json.specs.Data.{no_members, string};
 ghost use Rattle.json_tree.specs.Tokens.{Appends, member_tokens, open_tokens, tokens_of};
-ghost use Rattle.profile_text.specs.Text.{texts_data};
 ghost use Rattle.journal.specs.Lines.{deed_members, enrolment_data, founding_data, kind_members};
 ghost use Rattle.journal.specs.Lines.{of_profile, of_revision, profile_members, revision_members};
-ghost use Rattle.journal.specs.Lines.{role_words, user_members, vote_data, words_among};
+ghost use Rattle.journal.specs.Lines.{user_members, vote_data};
 
 use cap_sets::Caps;
+use json_requests::roles::write_roles;
 use json_requests::write::{write_digest, write_number, write_text};
 use json_tree::Writer;
+use office_words::{ProfileName, Roles, Word};
 use profile_text::write_set;
-use review_policy::{ProfileName, Role, Roles, Word};
 use review_sheet::vote_word;
 use std::alloc::{AllocError, Global};
 
@@ -96,39 +96,6 @@ fn write_user(out: &mut Writer, user: &Word, team: &Word) -> Result<(), AllocErr
 {
     write_text(out, "team", team.as_str())?;
     write_text(out, "user", user.as_str())
-}
-
-// The word of a role, where it is one of these.
-fn write_role(out: &mut Writer, roles: Roles, role: Role) -> Result<(), AllocError>
-    ensures { OnOk result (Appends out.old out.new
-        (flat_map (λ word. tokens_of (string word)) (words_among roles (role ∷ [])))) }
-{
-    if roles.has(role) {
-        out.string(role.word())
-    } else {
-        Ok(())
-    }
-}
-
-// The words of those of these roles that are in the set.
-fn write_among(out: &mut Writer, roles: Roles, among: &[Role]) -> Result<(), AllocError>
-    ensures { OnOk result (Appends out.old out.new
-        (tokens_of (texts_data (words_among roles among.now)))) }
-{
-    out.begin_array()?;
-    for role in among {
-        write_role(out, roles, *role)?;
-    }
-    out.end_array()
-}
-
-// The words of roles.
-fn write_roles(out: &mut Writer, roles: Roles) -> Result<(), AllocError>
-    ensures { OnOk result (Appends out.old out.new
-        (member_tokens (codes "roles") (Some (texts_data (role_words roles))))) }
-{
-    out.key("roles")?;
-    write_among(out, roles, Role::ALL.as_slice())
 }
 
 /// A founding.

@@ -17,7 +17,8 @@ use json_requests::LineFault;
 use json_requests::member::{digest_of, name_of, revision_of, roles_of, text_of, vote_of, word_of};
 use json_tree::Tree;
 use office_policy::{Deed, Event};
-use review_policy::{ProfileAct, RevisionAct, Text, Word};
+use office_words::{Text, Word};
+use review_policy::{ProfileAct, RevisionAct};
 use std::alloc::Global;
 
 // The capability that a value names, alone; no other value names one.

@@ -22,7 +22,8 @@ use json_requests::write::{write_number, write_text};
 use json_tree::{Writer, written_text};
 use office_policy::forms::{digest_form, name_form, roles_form, text_form, word_form};
 use office_policy::{Change, Deed, Event, founding_forms};
-use review_policy::{ProfileAct, ProfileName, RevisionAct, Roles, Text, Word};
+use office_words::{ProfileName, Roles, Text, Word};
+use review_policy::{ProfileAct, RevisionAct};
 use std::alloc::{AllocError, Global};
 
 // How many bytes a text has room for before it grows.

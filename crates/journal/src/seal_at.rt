@@ -7,7 +7,7 @@ ghost use Rattle.journal.specs.SealsAt.{Finds, Sees};
 use sealed_log::{Seal, no_seal};
 
 /// The seal of the first so many lines of a journal, which is known once they were taken.
-#[derive(Clone, Copy, Debug, Drop)]
+#[derive(Clone, Copy, Drop)]
 pub(crate) struct SealAt {
     line: u64,
     seal: Seal,

@@ -55,7 +55,7 @@ fn table_of(event: &Event) -> Table
 
 /// Of each table of an office the newest event that wrote to it, where one did. A vote before the
 /// last enrolment is passed over: what it shows depends on its voter's roles.
-#[derive(Debug, Drop)]
+#[derive(Drop)]
 pub struct Writers {
     pub users: Option<Box<Event>>,
     pub revisions: Option<Box<Event>>,

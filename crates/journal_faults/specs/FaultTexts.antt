@@ -1,10 +1,11 @@
 -- The texts of why no office is built anew from a journal or opened again with one, and of why there is
 -- no evidence in one, or not its whole history was written.
 use Rattle.std.specs.Prelude.{ℕ, List, [], ◌++◌, ◌==◌, if◌then◌else◌, codes, decimal}
-use Rattle.review_policy.specs.WordTables.{fault_word, rule_word}
+use Rattle.office_words.specs.WordTables.{fault_word}
+use Rattle.review_policy.specs.WordTables.{rule_word}
 use Rattle.office_founding.specs.Faults.{founding_fault_word}
-use Rattle.office_desk.specs.declared.replay.Unreplayed.{Unreplayed}
-use Rattle.office_desk.specs.declared.replay.Unreplayed.TheVariants as causes
+use Rattle.review_office.specs.declared.replay.Unreplayed.{Unreplayed}
+use Rattle.review_office.specs.declared.replay.Unreplayed.TheVariants as causes
 use Rattle.sealed_log.specs.FaultTexts.{unreadable_word}
 use Rattle.journal_faults.specs.declared.no_evidence.NoEvidence.{NoEvidence}
 use Rattle.journal_faults.specs.declared.no_evidence.NoEvidence.TheVariants as evidence

@@ -1,14 +1,13 @@
 //! Where an office differs from the one of its journal.
 
 use crate::table::Table;
-use review_policy::{ProfileName, Word};
-use std::error::Error;
+use office_words::{ProfileName, Word};
 use std::fmt;
 
 /// Where an office differs from the one of its journal: its schema, or a row, by its table and its
 /// key, which one of the two has and the other hasn't, or has otherwise; or its mark. Its text is the
 /// table and the key, or one word.
-#[derive(Debug, Drop)]
+#[derive(Drop)]
 pub enum Difference {
     /// The tables and indexes aren't those of an office.
     Schema,
@@ -74,5 +73,3 @@ impl fmt::Display for Difference {
         }
     }
 }
-
-impl Error for Difference {}

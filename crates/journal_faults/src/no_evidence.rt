@@ -2,12 +2,11 @@
 
 use crate::refused::Refused;
 use no_memory::NoMemory;
-use review_policy::Fault;
-use std::error::Error;
+use office_words::Fault;
 use std::fmt;
 
 /// Why there is no evidence. Its text is a word, behind the line where one is at fault.
-#[derive(Clone, Copy, Debug, Drop, PartialEq, Eq)]
+#[derive(Clone, Copy, Drop)]
 pub enum NoEvidence {
     /// Up to the event, and with it, the journal can't be read or its events don't happen again.
     Refused(Refused),
@@ -55,5 +54,3 @@ impl fmt::Display for NoEvidence {
         }
     }
 }
-
-impl Error for NoEvidence {}

@@ -1,15 +1,14 @@
 //! Why an office and its journal aren't opened again.
 
 use no_memory::NoMemory;
-use review_policy::Fault;
+use office_words::Fault;
 use sealed_log::{LogFault, Unreadable};
 use std::alloc::AllocError;
-use std::error::Error;
 use std::fmt;
 
 /// Why an office and its journal aren't opened again. Its text is one word; where the file was changed,
 /// `changed at` and the offset.
-#[derive(Clone, Copy, Debug, Drop, PartialEq, Eq)]
+#[derive(Clone, Copy, Drop)]
 pub enum NotReopened {
     /// No line of the journal is sealed.
     Unsealed,
@@ -47,8 +46,6 @@ impl fmt::Display for NotReopened {
         }
     }
 }
-
-impl Error for NotReopened {}
 
 impl From<LogFault> for NotReopened {
     ghost use Rattle.std.specs.Prelude.{◌≡◌};

@@ -1,14 +1,13 @@
 //! Why no office is built anew from a journal.
 
-use office_desk::Unreplayed;
 use office_founding::FoundingFault;
+use review_office::Unreplayed;
 use sealed_log::Unreadable;
-use std::error::Error;
 use std::fmt;
 
 /// Why no office is built anew from a journal. Its text is one word; where a rule refuses an event,
 /// `rule` with its number and its word.
-#[derive(Clone, Copy, Debug, Drop, PartialEq, Eq)]
+#[derive(Clone, Copy, Drop)]
 pub enum Why {
     /// The journal can't be read on.
     Unread(Unreadable),
@@ -43,10 +42,8 @@ impl fmt::Display for Why {
     }
 }
 
-impl Error for Why {}
-
 /// Where and why no office is built anew from a journal.
-#[derive(Clone, Copy, Debug, Drop, PartialEq, Eq)]
+#[derive(Clone, Copy, Drop)]
 pub struct Refused {
     /// The number of the line, from 1, and the greatest u64 for any above; 0 where no event stands.
     pub line: u64,
@@ -70,5 +67,3 @@ impl fmt::Display for Refused {
         }
     }
 }
-
-impl Error for Refused {}

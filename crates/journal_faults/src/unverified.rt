@@ -2,10 +2,10 @@
 
 use crate::difference::Difference;
 use crate::refused::Refused;
-use review_policy::Fault;
+use office_words::Fault;
 
 /// Why an office isn't verified.
-#[derive(Debug, Drop)]
+#[derive(Drop)]
 pub enum Unverified {
     /// No office is built anew from the journal.
     Refused(Refused),

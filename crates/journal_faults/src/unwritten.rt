@@ -2,14 +2,13 @@
 
 use crate::refused::Refused;
 use no_memory::NoMemory;
-use review_policy::Fault;
+use office_words::Fault;
 use std::alloc::AllocError;
-use std::error::Error;
 use std::fmt;
 
 /// Why not the whole history of a journal was written. Its text is a word, behind the line where
 /// one is at fault.
-#[derive(Clone, Copy, Debug, Drop, PartialEq, Eq)]
+#[derive(Clone, Copy, Drop)]
 pub enum Unwritten {
     /// The journal can't be read on, or an event doesn't happen again.
     Refused(Refused),
@@ -62,5 +61,3 @@ impl fmt::Display for Unwritten {
         }
     }
 }
-
-impl Error for Unwritten {}

@@ -2,9 +2,9 @@
 use Rattle.std.proofs.Common.{inl, inr, ◌≡◌, ◌≤◌, ◌⊎◌, true, false, Option, Some, None, Result, Ok, Err, sym, subst, arith}
 use Rattle.std.specs.Prelude.{⊤, Box, is_some}
 use Rattle.std.specs.declared.alloc.Global.{Global}
-use Rattle.review_policy.specs.declared.fault.Fault.{Fault}
-use Rattle.review_policy.specs.declared.fault.Fault.TheVariants as faults
-use Rattle.office_tables.specs.Tables.{Tables}
+use Rattle.office_words.specs.declared.fault.Fault.{Fault}
+use Rattle.office_words.specs.declared.fault.Fault.TheVariants as faults
+use Rattle.office_words.specs.Tables.{Tables}
 use Rattle.office_policy.specs.History.{Event}
 use Rattle.office_policy.specs.Handled.{HasRisen}
 use Rattle.office_policy.specs.Judging.{LeavesAll}
@@ -13,7 +13,7 @@ use Rattle.office_policy.specs.ShowsEvent.{Shows}
 use Rattle.office_policy.specs.TablesOf.{tables_of}
 use Rattle.office_policy.specs.declared.event.Event as values
 use Rattle.office_policy.proofs.SurvivalFacts.{closes_by_fault, survives_on}
-use Rattle.office_desk.specs.Looking.{IsMetBetween}
+use Rattle.review_office.specs.Looking.{IsMetBetween}
 use Rattle.journal.specs.Kept.{with_stood}
 use Rattle.journal.specs.declared.writers.Writers.{Writers as TheWriters}
 use Rattle.journal.proofs.WriterFacts.{put_shown, writer_shown}

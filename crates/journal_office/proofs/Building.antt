@@ -4,7 +4,7 @@ use Rattle.office_policy.specs.History.{Event}
 use Rattle.office_policy.specs.Handled.{Stands}
 use Rattle.office_policy.specs.Lawful.{IsFounding, IsLawfulHistory}
 use Rattle.office_policy.specs.Meaning.{Meaning}
-use Rattle.office_desk.specs.Replayed.{HasHappened}
+use Rattle.review_office.specs.Replayed.{HasHappened}
 use Rattle.sealed_log.specs.declared.unreadable.Unreadable.{Unreadable}
 use Rattle.journal.specs.Told.{GoesOn, Place, held_at, history_told, standing, start}
 use Rattle.journal_faults.specs.declared.refused.Refused.{Refused}

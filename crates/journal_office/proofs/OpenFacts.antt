@@ -8,8 +8,8 @@ use Rattle.office_store.specs.Shown.{AreOffice, ShowsIfOpen}
 use Rattle.office_policy.specs.History.{History}
 use Rattle.office_policy.specs.Handled.{Stands}
 use Rattle.office_policy.specs.Lawful.{IsLawfulHistory}
-use Rattle.office_desk.specs.Meant.{meaning_over}
-use Rattle.office_desk.specs.Offices.{IsOffice}
+use Rattle.review_office.specs.Meant.{meaning_over}
+use Rattle.review_office.specs.Offices.{IsOffice}
 use Rattle.journal.specs.declared.journaled.Journaled.{Journaled}
 use Rattle.journal.specs.Logs.{in_log}
 use Rattle.sqlite_disk.specs.declared.Disk.{Ghosts as DiskGhosts}

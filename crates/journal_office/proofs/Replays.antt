@@ -6,7 +6,7 @@ use Rattle.office_policy.specs.History.{Event, History}
 use Rattle.office_policy.specs.Lawful.{IsAllowed, IsLawfulHistory}
 use Rattle.office_policy.specs.Handled.{Stands}
 use Rattle.office_policy.specs.Meaning.{Meaning}
-use Rattle.office_desk.specs.Replayed.{HasHappened}
+use Rattle.review_office.specs.Replayed.{HasHappened}
 use Rattle.journal.specs.Journal.{IsSealedJournal}
 use Rattle.journal.specs.Told.{Begins, Ends, GoesOn, IsBegun, Place, Tells, history_told, start, text_behind}
 use Rattle.journal.specs.Lines.{text_of}

@@ -6,9 +6,9 @@ use Rattle.sqlite.specs.Store.{Ghosts}
 use Rattle.office_policy.specs.History.{Event, History}
 use Rattle.office_policy.specs.Lawful.{IsAllowed, IsLawfulHistory}
 use Rattle.office_policy.specs.Meaning.{Meaning}
-use Rattle.office_desk.specs.declared.replay.Unreplayed.TheVariants as causes
-use Rattle.office_desk.specs.Meant.{meaning_over}
-use Rattle.office_desk.specs.Replayed.{IsRefused as IsDenied}
+use Rattle.review_office.specs.declared.replay.Unreplayed.TheVariants as causes
+use Rattle.review_office.specs.Meant.{meaning_over}
+use Rattle.review_office.specs.Replayed.{IsRefused as IsDenied}
 use Rattle.sealed_log.specs.Input.{IsOutside}
 use Rattle.sealed_log.specs.declared.unreadable.Unreadable.{Unreadable}
 use Rattle.sealed_log.specs.declared.unreadable.Unreadable.TheVariants as unreadable

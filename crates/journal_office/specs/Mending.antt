@@ -2,7 +2,7 @@
 use Rattle.std.specs.Prelude.{◌≡◌, ◌≢◌, ◌⊎◌, ◌≤◌, ◌<◌, [], ◌∷◌, ◌++◌, ℕ, List, length, Bool, false}
 use Rattle.std.specs.Prelude.{true, Option, Some, None, Result, Ok, Err, ⊤, OnOk, IfOk, IfErr, IsTrue}
 use Rattle.sqlite_disk.specs.declared.Disk.{Ghosts}
-use Rattle.review_policy.specs.declared.fault.Fault.{Fault}
+use Rattle.office_words.specs.declared.fault.Fault.{Fault}
 use Rattle.sealed_log.specs.Disks.{LeavesTail}
 use Rattle.sealed_log.specs.Log.{bodies_of}
 use Rattle.sealed_log.specs.Sealed.{longest, sealed_text}
@@ -15,8 +15,8 @@ use Rattle.office_policy.specs.Lawful.{IsAllowed, IsLawfulHistory}
 use Rattle.office_policy.specs.Meaning.{Meaning}
 use Rattle.office_policy.specs.ShowsEvent.{Shows}
 use Rattle.office_policy.specs.TablesOf.{tables_of}
-use Rattle.office_tables.specs.Tables.{Tables}
-use Rattle.office_desk.specs.Looking.{IsMetBetween}
+use Rattle.office_words.specs.Tables.{Tables}
+use Rattle.review_office.specs.Looking.{IsMetBetween}
 use Rattle.office_policy.specs.EventForms.{HasForms}
 use Rattle.journal.specs.Journal.{EndsWithEvent, Says}
 use Rattle.journal.specs.Lines.{strike, text_of}

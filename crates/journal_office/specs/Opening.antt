@@ -12,7 +12,7 @@ use Rattle.office_policy.specs.History.{History}
 use Rattle.office_policy.specs.Handled.{Stands}
 use Rattle.office_policy.specs.Judging.{LeavesAll}
 use Rattle.office_policy.specs.Lawful.{IsLawfulHistory}
-use Rattle.office_desk.specs.Meant.{meaning_over}
+use Rattle.review_office.specs.Meant.{meaning_over}
 use Rattle.journal.specs.declared.journaled.Journaled.{Journaled}
 use Rattle.journal.specs.Journals.{IsOf, goes_on, journaled}
 use Rattle.journal.specs.Kept.{SaysNone}

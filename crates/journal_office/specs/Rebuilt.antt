@@ -14,10 +14,10 @@ use Rattle.office_policy.specs.Handled.{Stands}
 use Rattle.office_policy.specs.History.{Event, History, founded}
 use Rattle.office_policy.specs.Lawful.{IsFounding, IsLawfulHistory}
 use Rattle.office_policy.specs.Meaning.{Meaning}
-use Rattle.office_desk.specs.declared.replay.Unreplayed.{Unreplayed}
-use Rattle.office_desk.specs.declared.replay.Unreplayed.TheVariants as causes
-use Rattle.office_desk.specs.Meant.{meaning_over}
-use Rattle.office_desk.specs.Replayed.{IsReplayed}
+use Rattle.review_office.specs.declared.replay.Unreplayed.{Unreplayed}
+use Rattle.review_office.specs.declared.replay.Unreplayed.TheVariants as causes
+use Rattle.review_office.specs.Meant.{meaning_over}
+use Rattle.review_office.specs.Replayed.{IsReplayed}
 use Rattle.journal.specs.Journal.{IsJournalOf, IsSealedJournal}
 use Rattle.journal.specs.Told.{CannotGoOn, GoesOn, Place, Tells, history_told, start}
 use Rattle.journal_office.specs.declared.office.Rebuilt.{Rebuilt}

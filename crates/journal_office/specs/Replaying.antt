@@ -4,7 +4,7 @@ use Rattle.sqlite.specs.Held.{state}
 use Rattle.sqlite.specs.State.{HasCleanDisk}
 use Rattle.sqlite.specs.Store.{Ghosts}
 use Rattle.office_policy.specs.History.{Event}
-use Rattle.office_desk.specs.Meant.{meaning_over}
+use Rattle.review_office.specs.Meant.{meaning_over}
 use Rattle.journal.specs.SealsAt.{IsSeen}
 use Rattle.journal.specs.Told.{place}
 use Rattle.journal_faults.specs.declared.refused.Refused.{Refused}

@@ -11,7 +11,7 @@ use Rattle.office_policy.specs.Handled.{Stands}
 use Rattle.office_policy.specs.History.{Event, founded}
 use Rattle.office_policy.specs.Lawful.{IsFounding}
 use Rattle.office_policy.specs.Meaning.{Meaning}
-use Rattle.office_desk.specs.Replayed.{HasHappened, IsReplayed}
+use Rattle.review_office.specs.Replayed.{HasHappened, IsReplayed}
 use Rattle.sealed_log.specs.declared.unreadable.Unreadable.{Unreadable}
 use Rattle.journal.specs.declared.events.Placed.{Placed}
 use Rattle.journal.specs.Told.{CannotGoOn, Gives, GoesOn, Leaves, Place, Tells, held_at}

@@ -6,15 +6,15 @@ ghost use Rattle.sealed_log.specs.Reading.{IsThrough};
 ghost use Rattle.sealed_log.specs.Told.{HasMore};
 ghost use Rattle.office_policy.specs.Happened.{event_meant};
 ghost use Rattle.office_policy.specs.Judging.{LeavesAll};
-ghost use Rattle.office_desk.specs.Meant.{meaning_over};
+ghost use Rattle.review_office.specs.Meant.{meaning_over};
 ghost use Rattle.journal.specs.Kept.{IsKept, keeps};
 ghost use Rattle.journal.specs.Writers.{ShowsIf, ShowsWriters, boxed_meant, writers_meant};
 ghost use Rattle.journal_office.specs.Mending.{Asks, IsStruckOut, LooksAt, LooksFor, Mends};
 
 use journal::{Kept, Line, Writers, text};
 use journal_faults::NotReopened;
-use office_desk::Office;
 use office_policy::Event;
+use review_office::Office;
 use sealed_log::{SealedLog, Through};
 use sqlite::Alter;
 use sqlite_disk::Disk;

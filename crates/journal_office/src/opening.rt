@@ -6,7 +6,7 @@ ghost use Rattle.journal_office.specs.Opening.{IsHandedBack, IsReopened};
 use crate::mending::mend;
 use journal::Journaled;
 use journal_faults::NotReopened;
-use office_desk::Office;
+use review_office::Office;
 use sealed_log::SealedLog;
 use sqlite::Alter;
 use sqlite_disk::Disk;

@@ -6,7 +6,7 @@ ghost use Rattle.sqlite.specs.State.{HasCleanDisk};
 ghost use Rattle.office_store.specs.Schema.{no_schema};
 ghost use Rattle.office_store.specs.Shown.{IsIdle};
 ghost use Rattle.office_policy.specs.History.{Event as TheEvent};
-ghost use Rattle.office_desk.specs.Meant.{meaning_over};
+ghost use Rattle.review_office.specs.Meant.{meaning_over};
 ghost use Rattle.journal.specs.Told.{place};
 ghost use Rattle.journal_office.specs.Steps.{HasBegun, Stops};
 ghost use Rattle.journal_office.specs.Rebuilding.{BuildsOn, IsBuilt, IsHalted, IsUnbuilt};

@@ -11,7 +11,7 @@ ghost use Rattle.office_policy.specs.Happened.{event_meant};
 ghost use Rattle.office_policy.specs.Lawful.{IsFounding};
 ghost use Rattle.journal.specs.SealsAt.{Finds, IsSeen};
 ghost use Rattle.journal.specs.Told.{held_at, place, placed_meant, without_held};
-ghost use Rattle.office_desk.specs.Meant.{meaning_over};
+ghost use Rattle.review_office.specs.Meant.{meaning_over};
 ghost use Rattle.journal_faults.specs.declared.refused.Why.TheVariants.{Unread};
 ghost use Rattle.journal_office.specs.Rebuilt.{line_behind};
 ghost use Rattle.journal_office.specs.Steps.{CountsNext, Happens, HasBegun, IsNext};
@@ -19,8 +19,8 @@ ghost use Rattle.journal_office.specs.Steps.{IsNoFounding, IsUnbegun, ReadsFirst
 
 use journal::{Events, Placed};
 use journal_faults::{Refused, Why};
-use office_desk::Office;
 use office_policy::Event;
+use review_office::Office;
 use sealed_log::{Seal, Unreadable};
 use sqlite::{Alter, Connection};
 use std::alloc::Global;

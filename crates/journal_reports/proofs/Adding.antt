@@ -3,11 +3,11 @@ use Rattle.std.proofs.Common.{◌≡◌, ◌∙◌, ◌==◌, ℕ, ◌+◌, ◌<
 use Rattle.std.proofs.lemmas.Bool.{ne_eqb}
 use Rattle.std.proofs.lemmas.List.{drop_all, drop_more}
 use Rattle.std.specs.Prelude.{filter, if◌then◌else◌}
-use Rattle.review_policy.specs.Role.{has_role}
-use Rattle.review_policy.specs.WordTables.{role_word}
-use Rattle.review_policy.specs.declared.role.Role.{Role}
+use Rattle.office_words.specs.Role.{has_role}
+use Rattle.office_words.specs.WordTables.{role_word}
+use Rattle.office_words.specs.declared.role.Role.{Role}
 use Rattle.review_sheet.specs.Layout.{spaced}
-use Rattle.journal.specs.Lines.{words_among}
+use Rattle.office_words.specs.WordTables.{words_among}
 use Rattle.journal_reports.specs.Lines.{each_spaced}
 
 -- a part, and then another

@@ -2,7 +2,7 @@
 use Rattle.std.proofs.Common.{ℕ, List, Option, Ok}
 use Rattle.office_policy.specs.History.{Event, History}
 use Rattle.office_policy.specs.Meaning.{Meaning}
-use Rattle.office_desk.specs.Looking.{HasLooked}
+use Rattle.review_office.specs.Looking.{HasLooked}
 use Rattle.journal.specs.Told.{Place, history_told}
 use Rattle.journal_office.specs.Rebuilt.{HasReplayed}
 

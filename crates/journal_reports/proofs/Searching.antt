@@ -4,16 +4,16 @@ use Rattle.std.proofs.lemmas.List.Elements.{All-cons, All-nil}
 use Rattle.std.specs.Prelude.{IfErr, IfOk, IfSome, is_none, option_map}
 use Rattle.sqlite.specs.Held.{Held}
 use Rattle.sqlite.specs.Store.{Ghosts}
-use Rattle.review_policy.specs.declared.fault.Fault.{Fault}
-use Rattle.review_policy.specs.declared.ask.ProfileName.{ProfileName}
-use Rattle.office_tables.specs.declared.row.RevisionRow.{RevisionRow}
+use Rattle.office_words.specs.declared.fault.Fault.{Fault}
+use Rattle.office_words.specs.declared.name.ProfileName.{ProfileName}
+use Rattle.office_words.specs.declared.row.RevisionRow.{RevisionRow}
 use Rattle.office_policy.specs.History.{Event, History}
 use Rattle.office_policy.specs.Meaning.{Meaning}
 use Rattle.office_policy.specs.Revisions.{revision_of}
 use Rattle.office_judging.specs.Sheets.{sheet_at, sheet_text_of}
-use Rattle.office_desk.specs.Looking.{HasLookedBack}
-use Rattle.office_desk.specs.Meant.{meaning_over}
-use Rattle.office_desk.specs.Replayed.{HasHappened}
+use Rattle.review_office.specs.Looking.{HasLookedBack}
+use Rattle.review_office.specs.Meant.{meaning_over}
+use Rattle.review_office.specs.Replayed.{HasHappened}
 use Rattle.journal.specs.Journal.{IsJournalOf}
 use Rattle.journal.specs.Told.{Ends, GoesOn, Place, Tells, history_told, start}
 use Rattle.journal.proofs.HistoryFacts.{journal_told}

@@ -6,15 +6,15 @@ use Rattle.std.proofs.KnownBytes.{Appends-nil, Appends-trans}
 use Rattle.streams.specs.Steps.{AppendsPart}
 use Rattle.sqlite.specs.Held.{Held}
 use Rattle.sqlite.specs.Store.{Ghosts}
-use Rattle.review_policy.specs.declared.fault.Fault.{Fault}
-use Rattle.office_tables.specs.declared.row.RevisionRow.{RevisionRow}
+use Rattle.office_words.specs.declared.fault.Fault.{Fault}
+use Rattle.office_words.specs.declared.row.RevisionRow.{RevisionRow}
 use Rattle.office_policy.specs.History.{Event, History}
 use Rattle.office_policy.specs.Handled.{Stands, Survives}
 use Rattle.office_policy.specs.Lawful.{IsFounding, IsLawfulHistory}
 use Rattle.office_policy.specs.Meaning.{Meaning}
-use Rattle.office_desk.specs.Looking.{HasLookedBack}
-use Rattle.office_desk.specs.Meant.{meaning_over}
-use Rattle.office_desk.specs.Replayed.{HasHappened}
+use Rattle.review_office.specs.Looking.{HasLookedBack}
+use Rattle.review_office.specs.Meant.{meaning_over}
+use Rattle.review_office.specs.Replayed.{HasHappened}
 use Rattle.sealed_log.specs.declared.unreadable.Unreadable.{Unreadable}
 use Rattle.journal.specs.Told.{Begins, Ends, GoesOn, Place, Tells, held_at, history_told, standing, start}
 use Rattle.journal.proofs.ToldFacts.{begins_first, stays, still_known}

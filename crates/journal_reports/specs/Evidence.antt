@@ -4,15 +4,15 @@ use Rattle.std.specs.Prelude.{Option, Some, None, Result, Ok, Err, IfSome, codes
 use Rattle.std.specs.Prelude.{option_map, unwrap_or}
 use Rattle.sqlite.specs.Held.{Held}
 use Rattle.sqlite.specs.Store.{Ghosts}
-use Rattle.review_policy.specs.declared.fault.Fault.{Fault}
-use Rattle.review_policy.specs.declared.ask.ProfileName.{ProfileName}
+use Rattle.office_words.specs.declared.fault.Fault.{Fault}
+use Rattle.office_words.specs.declared.name.ProfileName.{ProfileName}
 use Rattle.office_policy.specs.History.{Event, History}
 use Rattle.office_policy.specs.Lawful.{IsLawfulHistory}
 use Rattle.office_policy.specs.Meaning.{Meaning}
 use Rattle.office_policy.specs.Revisions.{issues, revision_of}
 use Rattle.office_judging.specs.Sheets.{sheet_at}
-use Rattle.office_desk.specs.Looking.{IsMetBetween}
-use Rattle.office_desk.specs.Meant.{meaning_over}
+use Rattle.review_office.specs.Looking.{IsMetBetween}
+use Rattle.review_office.specs.Meant.{meaning_over}
 use Rattle.journal.specs.Journal.{IsJournalOf}
 use Rattle.journal.specs.Told.{GoesOn, Place, Tells, history_told, start}
 use Rattle.journal_office.specs.Rebuilt.{HasReplayed, IsRefused}

@@ -4,15 +4,15 @@ use Rattle.std.specs.Prelude.{Some, None, Err, IfSome, if◌then◌else◌}
 use Rattle.std.specs.Io.KnownBytes.{Appends}
 use Rattle.sqlite.specs.Held.{Held}
 use Rattle.sqlite.specs.Store.{Ghosts}
-use Rattle.review_policy.specs.declared.fault.Fault.{Fault}
+use Rattle.office_words.specs.declared.fault.Fault.{Fault}
 use Rattle.office_policy.specs.Handled.{Stands}
 use Rattle.office_policy.specs.History.{Event, History}
 use Rattle.office_policy.specs.Lawful.{IsLawfulHistory}
 use Rattle.office_policy.specs.Meaning.{Meaning}
-use Rattle.office_desk.specs.declared.replay.Unreplayed.{Unreplayed}
-use Rattle.office_desk.specs.Looking.{IsMetBetween}
-use Rattle.office_desk.specs.Meant.{meaning_over}
-use Rattle.office_desk.specs.Replayed.{IsReplayed}
+use Rattle.review_office.specs.declared.replay.Unreplayed.{Unreplayed}
+use Rattle.review_office.specs.Looking.{IsMetBetween}
+use Rattle.review_office.specs.Meant.{meaning_over}
+use Rattle.review_office.specs.Replayed.{IsReplayed}
 use Rattle.sealed_log.specs.declared.unreadable.Unreadable.{Unreadable}
 use Rattle.journal.specs.Told.{Begins, CannotGoOn, GoesOn, Place, Tells, history_told}
 use Rattle.journal.specs.Told.{standing, start}

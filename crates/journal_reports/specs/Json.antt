@@ -7,7 +7,7 @@ use Rattle.serde_json.specs.Written.{compact_text}
 use Rattle.profile_text.specs.Digest.{digest_of}
 use Rattle.review_policy.specs.Acts.{profile_act_word, revision_act_word}
 use Rattle.review_sheet.specs.Layout.{ended}
-use Rattle.office_tables.specs.declared.row.RevisionRow.{RevisionRow}
+use Rattle.office_words.specs.declared.row.RevisionRow.{RevisionRow}
 use Rattle.office_policy.specs.History.{Event, founded, enrolled, submitted, voted}
 use Rattle.office_policy.specs.History.{on_revision, on_profile}
 use Rattle.office_policy.specs.Revisions.{number_of}

@@ -8,14 +8,14 @@ use Rattle.review_policy.specs.declared.act.ProfileAct.{ProfileAct}
 use Rattle.review_policy.specs.declared.act.ProfileAct.TheVariants.{Hold, Release}
 use Rattle.review_policy.specs.declared.act.RevisionAct.{RevisionAct}
 use Rattle.review_policy.specs.declared.act.RevisionAct.TheVariants.{Issue, Withdraw, Adopt}
-use Rattle.review_policy.specs.declared.ask.ProfileName.{ProfileName}
+use Rattle.office_words.specs.declared.name.ProfileName.{ProfileName}
 use Rattle.review_sheet.specs.Layout.{ended, spaced}
-use Rattle.office_tables.specs.declared.row.RevisionRow.{RevisionRow}
+use Rattle.office_words.specs.declared.row.RevisionRow.{RevisionRow}
 use Rattle.office_policy.specs.History.{Event, History, founded, enrolled, submitted, voted}
 use Rattle.office_policy.specs.History.{on_revision as acted_on_revision}
 use Rattle.office_policy.specs.History.{on_profile as acted_on_profile}
 use Rattle.office_policy.specs.Revisions.{last_revision, number_of, revision_of}
-use Rattle.journal.specs.Lines.{role_words}
+use Rattle.office_words.specs.WordTables.{role_words}
 use Rattle.journal_reports.specs.Json.{json_of}
 
 -- items, each behind a space, or `none`

@@ -1,11 +1,11 @@
 -- What is done with the events of a journal, one after the other.
 use Rattle.std.specs.Prelude.{◌≡◌, ◌∷◌, [], ℕ, List, All, false, is_none, Option, None, Result, Ok}
 use Rattle.std.specs.Prelude.{Err}
-use Rattle.review_policy.specs.declared.fault.Fault.{Fault}
-use Rattle.review_policy.specs.declared.ask.ProfileName.{ProfileName}
+use Rattle.office_words.specs.declared.fault.Fault.{Fault}
+use Rattle.office_words.specs.declared.name.ProfileName.{ProfileName}
 use Rattle.office_policy.specs.History.{Event, History}
 use Rattle.office_policy.specs.Meaning.{Meaning}
-use Rattle.office_desk.specs.Looking.{IsMetBetween}
+use Rattle.review_office.specs.Looking.{IsMetBetween}
 use Rattle.journal.specs.Told.{Place, history_told}
 use Rattle.journal_office.specs.Rebuilt.{HasReplayed}
 use Rattle.journal_office.specs.Steps.{IsLeftBehind}

@@ -2,7 +2,7 @@
 use Rattle.std.specs.Prelude.{◌≡◌, ℕ, List, Option, Result, ⊤}
 use Rattle.sqlite.specs.Store.{Ghosts}
 use Rattle.office_policy.specs.History.{Event}
-use Rattle.office_desk.specs.Meant.{meaning_over}
+use Rattle.review_office.specs.Meant.{meaning_over}
 use Rattle.journal.specs.Told.{place}
 use Rattle.journal_office.specs.declared.replay.Replay.{Replay}
 use Rattle.journal_office.specs.Rebuilt.{HasReplayed}

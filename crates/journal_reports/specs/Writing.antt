@@ -4,13 +4,13 @@ use Rattle.std.specs.Prelude.{string_bytes}
 use Rattle.std.specs.Io.KnownBytes.{Appends}
 use Rattle.std.specs.declared.alloc.Global.{Global}
 use Rattle.streams.specs.Steps.{AppendsPart}
-use Rattle.review_policy.specs.declared.fault.Fault.{Fault}
-use Rattle.office_tables.specs.declared.row.RevisionRow.{RevisionRow}
+use Rattle.office_words.specs.declared.fault.Fault.{Fault}
+use Rattle.office_words.specs.declared.row.RevisionRow.{RevisionRow}
 use Rattle.office_policy.specs.Handled.{Stands}
 use Rattle.office_policy.specs.History.{Event}
 use Rattle.office_policy.specs.Lawful.{IsLawfulHistory}
 use Rattle.office_policy.specs.Meaning.{Meaning}
-use Rattle.office_desk.specs.Looking.{IsMetBetween}
+use Rattle.review_office.specs.Looking.{IsMetBetween}
 use Rattle.journal.specs.Told.{Place, history_told}
 use Rattle.journal_office.specs.Rebuilt.{HasReplayed}
 use Rattle.journal_faults.specs.declared.unwritten.Unwritten.{Unwritten}

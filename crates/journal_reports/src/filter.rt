@@ -10,12 +10,12 @@ ghost use Rattle.journal_reports.specs.Struck.{asks_for_all, shows_struck};
 
 use journal::Placed;
 use office_policy::{Deed, Event};
-use review_policy::{ProfileName, Word};
+use office_words::{ProfileName, Word};
 use std::marker::Model;
 
 /// Which events are shown, and how: those of a team, about a profile of a name and by a user, where
 /// one is named, from a line on. A founding and an enrolment are about no profile.
-#[derive(Debug, Drop)]
+#[derive(Drop)]
 pub struct Filter<'a> {
     /// The team: of the user who is founded or enrolled, or of the profile.
     pub team: Option<&'a Word>,

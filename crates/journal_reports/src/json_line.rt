@@ -15,9 +15,9 @@ use journal::members::{
 use json_tree::{Writer, written_text};
 use office_judging::number_of;
 use office_policy::{Deed, Event};
-use office_tables::RevisionRow;
+use office_words::{ProfileName, RevisionRow, Text, Word};
 use profile_text::digest;
-use review_policy::{ProfileName, RevisionAct, Text, Word};
+use review_policy::RevisionAct;
 use std::alloc::{AllocError, Global};
 
 // How many bytes a text has room for before it grows.

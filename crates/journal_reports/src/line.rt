@@ -9,7 +9,7 @@ ghost use Rattle.review_sheet.specs.Layout.{Adds, spaced};
 ghost use Rattle.office_policy.specs.Happened.{event_meant};
 ghost use Rattle.office_policy.specs.History.{did};
 ghost use Rattle.office_policy.specs.Revisions.{number_of};
-ghost use Rattle.journal.specs.Lines.{role_words, words_among};
+ghost use Rattle.office_words.specs.WordTables.{role_words, words_among};
 ghost use Rattle.journal_reports.specs.Lines.{deed, digest_in, each_spaced, on_profile};
 ghost use Rattle.journal_reports.specs.Lines.{on_revision, profile_word, revision_word};
 ghost use Rattle.journal_reports.specs.Lines.{short_digest, text_of, voted_word};
@@ -18,9 +18,9 @@ use cap_sets::{Caps, Names};
 use journal::Placed;
 use office_judging::number_of;
 use office_policy::{Deed, Event};
-use office_tables::RevisionRow;
+use office_words::{ProfileName, RevisionRow, Role, Roles, Text, Word};
 use profile_text::digest;
-use review_policy::{ProfileAct, ProfileName, RevisionAct, Role, Roles, Text, Word};
+use review_policy::{ProfileAct, RevisionAct};
 use std::alloc::{AllocError, Global};
 
 // Adds an item behind a space.

@@ -1,9 +1,7 @@
-//! Sealed lines of a stream: where they are as long as a line can be, and where one never ends.
+//! Sealed lines of a stream, where they are as long as a line can be.
 
 use sealed_log::{Unreadable, is_body, no_seal, read_body, seal};
 use std::alloc::{AllocError, Global};
-use std::io;
-use std::io::{BufReader, Read};
 use std::process::Abort;
 use std::test::Fail;
 
@@ -11,35 +9,6 @@ use std::test::Fail;
 const LONGEST: usize = 2_097_152;
 
 const LONGEST_BODY: usize = 2_097_068;
-
-// A line that never ends, by a reader that counts what it gave.
-#[derive(Drop)]
-struct Endless {
-    given: usize,
-}
-
-impl Read for Endless {
-    fn read(&mut self, buf: &mut [u8]) -> io::Result<usize> {
-        buf.fill(b'x');
-        self.given = self.given.saturating_add(buf.len());
-        Ok(buf.len())
-    }
-}
-
-#[test]
-fn a_line_that_never_ends_is_read_no_further_than_a_line_can_be(
-    rt: HostRuntime,
-) -> Result<(), Fail> {
-    let alloc = rt.alloc();
-    let mut input = BufReader::with_capacity(alloc, 1000, Endless { given: 0 })?;
-    let mut last = no_seal();
-    let mut body = Vec::new(alloc);
-    let read = read_body(alloc, &mut input, &mut last, &mut body);
-    assert_eq!(rt; read, Err(Unreadable::NotALine));
-    // So many, and what was read ahead.
-    assert_eq!(rt; input.get_ref().given, 2_098_000);
-    Ok(())
-}
 
 // A JSON text of so many bytes.
 fn text_of(alloc: Global, len: usize) -> Result<String, AllocError> {

@@ -5,8 +5,8 @@ use Rattle.sqlite.specs.Effect.{Database}
 use Rattle.sqlite.specs.Held.{Held, state}
 use Rattle.sqlite.specs.State.{IsLive, IsUnchanged}
 use Rattle.sqlite.specs.Store.{Ghosts}
-use Rattle.office_tables.specs.Tables.{Tables}
-use Rattle.review_policy.specs.declared.fault.Fault.{Fault}
+use Rattle.office_words.specs.Tables.{Tables}
+use Rattle.office_words.specs.declared.fault.Fault.{Fault}
 use Rattle.office_store.specs.Schema.{office_schema}
 use Rattle.office_store.specs.Shown.{IsOffice, Shows}
 use Rattle.journal_faults.specs.declared.difference.Difference.{Difference}

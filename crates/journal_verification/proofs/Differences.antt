@@ -7,7 +7,7 @@ use Rattle.sqlite.specs.Effect.{Database}
 use Rattle.sqlite.specs.Held.{Held, state}
 use Rattle.sqlite.specs.Order.{Row}
 use Rattle.sqlite.specs.Store.{Ghosts}
-use Rattle.office_tables.specs.Tables.{Tables, is_profile}
+use Rattle.office_words.specs.Tables.{Tables, is_profile}
 use Rattle.office_store.specs.Entries.{IsBaseline, IsProfileName, IsRevision, IsUser, IsVote, baseline_row, hold_row, revision_key, revision_row, same_revision, same_vote, user_row, vote_row}
 use Rattle.office_store.specs.Shown.{IsOffice, Shows}
 use Rattle.office_store.proofs.Profiles.{profiles_decide, revisions_decide, votes_decide}

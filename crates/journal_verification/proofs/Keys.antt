@@ -11,9 +11,9 @@ use Rattle.sqlite.specs.Term.{eval_all}
 use Rattle.sqlite_sql.specs.Ops.{binary}
 use Rattle.sqlite_value.specs.Order.{column, value_cmp}
 use Rattle.sqlite_value.proofs.OrderLemmas.{value_cmp-Int, value_cmp-Text}
-use Rattle.review_policy.specs.declared.ask.ProfileName.{ProfileName}
-use Rattle.office_tables.specs.declared.row.UserRow.{UserRow}
-use Rattle.office_tables.specs.Tables.{Tables, is_profile}
+use Rattle.office_words.specs.declared.name.ProfileName.{ProfileName}
+use Rattle.office_words.specs.declared.row.UserRow.{UserRow}
+use Rattle.office_words.specs.Tables.{Tables, is_profile}
 use Rattle.office_rows.specs.Entries.{row_of}
 use Rattle.office_rows.proofs.InOrder.{order_cmp}
 use Rattle.office_store.specs.Entries.{BaselineEntry, IsBaseline, IsProfileName, IsRevision, IsUser, IsVote, Revision, VoteEntry, VoteKey, baseline_row, hold_row, revision_key, revision_row, same_revision, same_vote, user_row, vote_key as vote_key_of, vote_row}

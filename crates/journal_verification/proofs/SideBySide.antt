@@ -8,8 +8,8 @@ use Rattle.sqlite.specs.Held.{Held, state}
 use Rattle.sqlite.specs.State.{State, CommitsShowing, HasCleanDisk, IsUnchanged, Survives}
 use Rattle.sqlite.specs.Store.{Ghosts}
 use Rattle.sqlite.proofs.Callers.{unchanged_then}
-use Rattle.review_policy.specs.declared.fault.Fault.{Fault}
-use Rattle.review_policy.specs.declared.fault.Fault.TheVariants.{NoMemory}
+use Rattle.office_words.specs.declared.fault.Fault.{Fault}
+use Rattle.office_words.specs.declared.fault.Fault.TheVariants.{NoMemory}
 use Rattle.office_rows.specs.Causes.{HasFailed}
 use Rattle.office_rows.specs.Queries.{IsQuery}
 use Rattle.office_store.specs.Schema.{office_schema}

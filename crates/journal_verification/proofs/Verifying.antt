@@ -9,10 +9,10 @@ use Rattle.office_store.proofs.Calls.{Settles, leaves_only}
 use Rattle.office_policy.specs.Callers.{caller_of}
 use Rattle.office_policy.specs.History.{Event, History}
 use Rattle.office_policy.specs.TablesOf.{tables_of}
-use Rattle.office_desk.specs.declared.replay.Unreplayed.{Unreplayed}
-use Rattle.office_desk.specs.declared.replay.Unreplayed.TheVariants as causes
-use Rattle.office_desk.specs.Meant.{meaning_over}
-use Rattle.office_desk.specs.Replayed.{HasOtherText, IsDeniedBy, IsRefused as IsDenied}
+use Rattle.review_office.specs.declared.replay.Unreplayed.{Unreplayed}
+use Rattle.review_office.specs.declared.replay.Unreplayed.TheVariants as causes
+use Rattle.review_office.specs.Meant.{meaning_over}
+use Rattle.review_office.specs.Replayed.{HasOtherText, IsDeniedBy, IsRefused as IsDenied}
 use Rattle.journal.specs.Journal.{IsJournalOf, IsSealedJournal}
 use Rattle.journal.specs.SealsAt.{IsSealAsked}
 use Rattle.journal.specs.Told.{history_told, start}

@@ -2,7 +2,7 @@
 use Rattle.std.specs.Prelude.{◌≡◌, ◌⊎◌, Option, None, Some}
 use Rattle.sqlite.specs.Held.{Held, state}
 use Rattle.sqlite.specs.Store.{Ghosts}
-use Rattle.office_tables.specs.Tables.{Tables}
+use Rattle.office_words.specs.Tables.{Tables}
 use Rattle.office_store.specs.Schema.{office_schema}
 use Rattle.office_store.specs.Shown.{Shows}
 use Rattle.journal_faults.specs.declared.difference.Difference.{Difference}

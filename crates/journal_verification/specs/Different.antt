@@ -1,6 +1,6 @@
 -- Where the tables of two offices differ.
 use Rattle.std.specs.Prelude.{◌≢◌}
-use Rattle.office_tables.specs.Tables.{Tables}
+use Rattle.office_words.specs.Tables.{Tables}
 use Rattle.journal_faults.specs.declared.difference.Difference.{Difference}
 use Rattle.journal_faults.specs.declared.difference.Difference.TheVariants as difference
 

@@ -3,8 +3,8 @@ use Rattle.std.specs.Prelude.{◌≡◌, ◌⊎◌, ◌<◌, ◌^◌, ℕ, pos, 
 use Rattle.sqlite.specs.declared.types.Value.TheVariants.{Int, Text}
 use Rattle.sqlite.specs.Order.{Row}
 use Rattle.sqlite_value.specs.Order.{column}
-use Rattle.review_policy.specs.declared.ask.ProfileName.{ProfileName}
-use Rattle.review_policy.specs.Words.{is_word}
+use Rattle.office_words.specs.declared.name.ProfileName.{ProfileName}
+use Rattle.office_words.specs.Words.{is_word}
 use Rattle.journal_faults.specs.declared.difference.Difference.{Difference}
 use Rattle.journal_faults.specs.declared.difference.Difference.TheVariants as difference
 use Rattle.journal_faults.specs.declared.table.Table.{Table}

@@ -7,8 +7,8 @@ use Rattle.office_store.specs.Shown.{IsIdle}
 use Rattle.office_policy.specs.Callers.{caller_of}
 use Rattle.office_policy.specs.History.{Event, History}
 use Rattle.office_policy.specs.Lawful.{IsAllowed, IsLawfulHistory}
-use Rattle.office_desk.specs.declared.replay.Unreplayed.TheVariants as causes
-use Rattle.office_desk.specs.Replayed.{HasOtherText, IsDeniedBy}
+use Rattle.review_office.specs.declared.replay.Unreplayed.TheVariants as causes
+use Rattle.review_office.specs.Replayed.{HasOtherText, IsDeniedBy}
 use Rattle.journal.specs.Told.{GoesOn, Place, history_told, start}
 use Rattle.journal_faults.specs.declared.refused.Refused.{Refused}
 use Rattle.journal_faults.specs.declared.refused.Why.{Why}

@@ -3,14 +3,14 @@ use Rattle.std.specs.Prelude.{◌≡◌, ◌⊎◌, ◌≤◌, ◌<◌, ℕ, Lis
 use Rattle.sqlite.specs.Held.{Held, state}
 use Rattle.sqlite.specs.Store.{Ghosts}
 use Rattle.memory_database.specs.MemoryStore.{over_memory}
-use Rattle.office_tables.specs.Tables.{Tables}
+use Rattle.office_words.specs.Tables.{Tables}
 use Rattle.office_rows.specs.Causes.{HasFailed}
 use Rattle.office_store.specs.Shown.{Shows}
 use Rattle.office_policy.specs.Handled.{Stands}
 use Rattle.office_policy.specs.History.{History}
 use Rattle.office_policy.specs.Lawful.{IsLawfulHistory}
 use Rattle.office_policy.specs.TablesOf.{tables_of}
-use Rattle.office_desk.specs.Meant.{meaning_over}
+use Rattle.review_office.specs.Meant.{meaning_over}
 use Rattle.journal.specs.Journal.{IsJournalOf, IsSealedJournal}
 use Rattle.sealed_log.specs.Told.{told}
 use Rattle.journal_faults.specs.declared.difference.Difference.{Difference}

@@ -6,7 +6,7 @@ ghost use Rattle.sqlite.specs.State.{HasCleanDisk, IsLive, IsUnchanged};
 ghost use Rattle.office_rows.specs.Causes.{HasFailed};
 ghost use Rattle.office_store.specs.Schema.{office_schema};
 ghost use Rattle.office_store.specs.Shown.{IsIdle, Shows};
-ghost use Rattle.office_tables.specs.Tables.{Tables};
+ghost use Rattle.office_words.specs.Tables.{Tables};
 ghost use Rattle.journal_verification.specs.Compared.{TellsOffice};
 ghost use Rattle.journal_verification.specs.Looked.{HasLooked};
 ghost use Rattle.journal_verification.specs.Reading.{IsAt, IsGiving};
@@ -25,7 +25,7 @@ use journal_faults::{Difference, Table};
 use memory_database::want_of_memory;
 use no_memory::NoMemory;
 use office_rows::fault_of_error;
-use review_policy::Fault;
+use office_words::Fault;
 use sqlite::{Alter, Connection, Rows};
 use std::alloc::Global;
 

@@ -8,7 +8,7 @@ ghost use Rattle.no_memory.specs.Witness.{witness};
 
 use journal_faults::{Difference, Table};
 use office_store::{number_at, word_at};
-use review_policy::{Fault, ProfileName};
+use office_words::{Fault, ProfileName};
 use sqlite::Row;
 use std::alloc::Global;
 

@@ -12,7 +12,7 @@ ghost use Rattle.journal_verification.specs.Reading.{GivesBehind, GivesNext, Giv
 
 use no_memory::NoMemory;
 use office_rows::fault_of_error;
-use review_policy::Fault;
+use office_words::Fault;
 use sqlite::{Alter, Rows};
 
 /// Reads the next row, where there is one.

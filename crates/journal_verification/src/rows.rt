@@ -117,7 +117,7 @@ fn rowid_of(row: &Row) -> Option<i64>
 }
 
 /// What is known of the rowids of rows that come one after the other.
-#[derive(Clone, Copy, Debug)]
+#[derive(Clone, Copy)]
 pub(crate) enum Rising {
     /// There are none yet.
     Empty,

@@ -22,7 +22,7 @@ use crate::table::key_width;
 use journal_faults::{Difference, Table};
 use memory_database::want_of_memory;
 use no_memory::NoMemory;
-use review_policy::Fault;
+use office_words::Fault;
 use sqlite::{Alter, Row, Rows};
 use std::alloc::Global;
 

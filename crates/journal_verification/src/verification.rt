@@ -15,14 +15,14 @@ use crate::compare::compare;
 use journal_faults::{Difference, Unverified};
 use journal_office::rebuild;
 use memory_database::open_in_memory;
-use review_policy::Fault;
+use office_words::Fault;
 use sealed_log::Seal;
 use sqlite::{Alter, Connection};
 use std::alloc::Global;
 use std::io::BufRead;
 
 /// What is known of an office that is the one of its journal.
-#[derive(Debug, Drop)]
+#[derive(Drop)]
 pub struct Verified {
     /// The number of its events.
     pub events: u64,
@@ -33,7 +33,7 @@ pub struct Verified {
 }
 
 /// The seal that a line of a journal had.
-#[derive(Clone, Copy, Debug, Drop, PartialEq, Eq)]
+#[derive(Clone, Copy, Drop)]
 pub struct KeptSeal {
     /// The number of the line, from 1.
     pub line: u64,

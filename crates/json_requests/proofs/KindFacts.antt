@@ -5,7 +5,7 @@ use Rattle.review_policy.specs.declared.act.ProfileAct.TheVariants.{Hold, Releas
 use Rattle.review_policy.specs.declared.act.ProfileView.TheVariants.{Fetch, Issued}
 use Rattle.review_policy.specs.declared.act.RevisionAct.TheVariants.{Issue}
 use Rattle.review_policy.specs.declared.act.RevisionView.TheVariants.{Show, Sheet}
-use Rattle.review_policy.proofs.WordFacts.{found_by_word}
+use Rattle.office_words.proofs.WordFacts.{found_by_word}
 use Rattle.json_requests.specs.Kinds.{Kind, all_kinds, kind_of, kind_word}
 use Rattle.json_requests.specs.Kinds as kinds
 

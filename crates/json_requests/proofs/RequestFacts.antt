@@ -13,10 +13,10 @@ use Rattle.serde_json.specs.Find.{as_str}
 use Rattle.serde_json.specs.Read.{read}
 use Rattle.json_tree.specs.View.{view, items_view}
 use Rattle.json_tree.specs.declared.tree.Tree.{Tree}
-use Rattle.review_policy.specs.Role.{place_of}
-use Rattle.review_policy.specs.WordTables.{role_of}
+use Rattle.office_words.specs.Role.{place_of}
+use Rattle.office_words.specs.WordTables.{role_of}
 use Rattle.review_policy.specs.declared.ask.Request.{Request}
-use Rattle.review_policy.specs.declared.role.Role.{Role}
+use Rattle.office_words.specs.declared.role.Role.{Role}
 use Rattle.json_requests.specs.declared.bad.BadLine.TheVariants as bad
 use Rattle.json_requests.specs.declared.fault.LineFault.{LineFault}
 use Rattle.json_requests.specs.declared.fault.LineFault.TheVariants.{NotJson, NotARequest, NoMemory}

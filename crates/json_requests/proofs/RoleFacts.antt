@@ -6,10 +6,10 @@ use Rattle.json.specs.Token.{Token}
 use Rattle.serde_json.specs.Data.{string}
 use Rattle.json_tree.specs.Tokens.{Appends}
 use Rattle.json_tree.proofs.Writing.{Leaves, all_tokens, leaves_none}
-use Rattle.review_policy.specs.Role.{has_role}
-use Rattle.review_policy.specs.WordTables.{role_word}
-use Rattle.review_policy.specs.declared.role.Role.{Role}
-use Rattle.json_requests.specs.Answers.{words_among}
+use Rattle.office_words.specs.Role.{has_role}
+use Rattle.office_words.specs.WordTables.{role_word}
+use Rattle.office_words.specs.declared.role.Role.{Role}
+use Rattle.office_words.specs.WordTables.{words_among}
 
 role_step : (roles : ℕ) (r : Role) (rest : List Role) → all_tokens string (words_among roles (r ∷ rest)) ≡ all_tokens string (words_among roles (r ∷ [])) ++ all_tokens string (words_among roles rest)
 role_step roles r rest =

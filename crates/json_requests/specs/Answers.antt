@@ -1,5 +1,5 @@
 -- The text of an answer.
-use Rattle.std.specs.Prelude.{ℕ, List, [], ◌∷◌, ◌++◌, Option, Some, None, map, filter, codes}
+use Rattle.std.specs.Prelude.{ℕ, List, [], ◌∷◌, ◌++◌, Option, Some, None, map, codes}
 use Rattle.hex.specs.Hex.{encode_lower}
 use Rattle.serde_json.specs.Data.{Data, number, unsigned, string, array, object, Members, member}
 use Rattle.serde_json.specs.Data.{no_members, boolean}
@@ -7,9 +7,9 @@ use Rattle.serde_json.specs.View.{items_of}
 use Rattle.serde_json.specs.Written.{compact_text}
 use Rattle.review_policy.specs.declared.answer.Answer.{Answer}
 use Rattle.review_policy.specs.declared.answer.Answer.TheVariants.{Done, Denied, Fault}
-use Rattle.review_policy.specs.declared.fault.Fault as faults
+use Rattle.office_words.specs.declared.fault.Fault as faults
 use Rattle.review_policy.specs.declared.answer.ListedProfile.{ListedProfile}
-use Rattle.review_policy.specs.declared.answer.ProfileRevision.{ProfileRevision}
+use Rattle.office_words.specs.declared.listed.ProfileRevision.{ProfileRevision}
 use Rattle.review_policy.specs.declared.answer.Reply.{Reply}
 use Rattle.review_policy.specs.declared.answer.Reply.TheVariants as reply
 use Rattle.review_policy.specs.declared.denial.Denial.{Denial}
@@ -17,9 +17,8 @@ use Rattle.review_policy.specs.declared.denial.Need.{Need}
 use Rattle.review_policy.specs.declared.denial.Need.TheVariants.{One, TwoWithSecurity}
 use Rattle.review_policy.specs.declared.denial.Rule.{Rule}
 use Rattle.review_policy.specs.declared.denial.Rule.TheVariants.{ApprovalsShort}
-use Rattle.review_policy.specs.declared.role.Role.{Role}
-use Rattle.review_policy.specs.Role.{has_role}
-use Rattle.review_policy.specs.WordTables.{all_roles, fault_word, role_word, rule_word, state_word}
+use Rattle.office_words.specs.WordTables.{fault_word, role_words, state_word}
+use Rattle.review_policy.specs.WordTables.{rule_word}
 
 -- a member whose value is a text, and one whose value is a number
 abbrev pub text_member : List ℕ → List ℕ → Members → Members
@@ -58,13 +57,9 @@ revision_data r =
 abbrev pub revisions_data : List ProfileRevision → Data
 revisions_data revisions = array (items_of (map revision_data revisions))
 
--- the words of those of these roles that are in a set
-abbrev pub words_among : ℕ → List Role → List (List ℕ)
-words_among roles among = map role_word (filter (has_role roles) among)
-
 -- the roles in a set, as a list of their words
 abbrev pub roles_data : ℕ → Data
-roles_data roles = array (items_of (map string (words_among roles all_roles)))
+roles_data roles = array (items_of (map string (role_words roles)))
 
 -- the members of an answer that a request is done, besides `answer`
 abbrev pub reply_members : Reply → Members

@@ -5,12 +5,12 @@ use Rattle.std.specs.Str.{bytes_eq}
 use Rattle.std.specs.Int.RustNames.{bit_or}
 use Rattle.serde_json.specs.Data.{Data, Items, no_items, item}
 use Rattle.serde_json.specs.Find.{get, as_str, as_number, as_u64, as_array}
-use Rattle.review_policy.specs.Digests.{digest_from_hex}
-use Rattle.review_policy.specs.Words.{is_word, is_token}
-use Rattle.review_policy.specs.Role.{place_of}
-use Rattle.review_policy.specs.Rules.{max_revisions}
-use Rattle.review_policy.specs.WordTables.{role_of}
-use Rattle.review_policy.specs.declared.ask.ProfileName.{ProfileName}
+use Rattle.office_words.specs.Digests.{digest_from_hex}
+use Rattle.office_words.specs.Words.{is_word, is_token}
+use Rattle.office_words.specs.Role.{place_of}
+use Rattle.office_words.specs.Limits.{max_revisions}
+use Rattle.office_words.specs.WordTables.{role_of}
+use Rattle.office_words.specs.declared.name.ProfileName.{ProfileName}
 
 infixl 10 ◌>>=◌
 abbrev pub ◌>>=◌ : {A B : Type 0} → Option A → (A → Option B) → Option B

@@ -6,7 +6,7 @@ use Rattle.review_policy.specs.declared.act.RevisionAct.{RevisionAct}
 use Rattle.review_policy.specs.declared.act.RevisionView.{RevisionView}
 use Rattle.review_policy.specs.declared.ask.Ask.{Ask}
 use Rattle.review_policy.specs.declared.ask.Ask.TheVariants as asks
-use Rattle.review_policy.specs.declared.ask.ProfileName.{ProfileName}
+use Rattle.office_words.specs.declared.name.ProfileName.{ProfileName}
 use Rattle.review_policy.specs.declared.ask.Request.{Request}
 
 -- what a request asks for

@@ -4,7 +4,7 @@ use Rattle.std.specs.Prelude.{option_and_then, codes, length, nat_lt}
 use Rattle.std.specs.Str.{is_utf8}
 use Rattle.serde_json.specs.Data.{Data}
 use Rattle.serde_json.specs.Read.{read}
-use Rattle.review_policy.specs.declared.ask.ProfileName.{ProfileName}
+use Rattle.office_words.specs.declared.name.ProfileName.{ProfileName}
 use Rattle.review_policy.specs.declared.ask.Request.{Request}
 use Rattle.json_requests.specs.declared.bad.BadLine.{BadLine}
 use Rattle.json_requests.specs.declared.bad.BadLine.TheVariants as bad

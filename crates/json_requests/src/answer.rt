@@ -13,7 +13,8 @@ use crate::revisions::write_revisions;
 use crate::roles::write_roles;
 use crate::write::{write_digest, write_number, write_text};
 use json_tree::{Writer, written_text};
-use review_policy::{Answer, Fault, ListedProfile, Reply, Roles, Word};
+use office_words::{Fault, Roles, Word};
+use review_policy::{Answer, ListedProfile, Reply};
 use std::alloc::{AllocError, Global};
 
 // How many bytes a text has room for before it grows.

@@ -2,7 +2,7 @@
 
 ghost use Rattle.std.specs.Prelude.{ℕ, None, if◌then◌else◌, option_and_then};
 ghost use Rattle.json_tree.specs.View.{view};
-ghost use Rattle.review_policy.specs.declared.ask.ProfileName.{ProfileName};
+ghost use Rattle.office_words.specs.declared.name.ProfileName.{ProfileName};
 ghost use Rattle.json_requests.specs.Faults.{Gives};
 ghost use Rattle.json_requests.specs.Kinds.{kind_among, kind_of, line_members, profile_members};
 ghost use Rattle.json_requests.specs.Kinds.{revision_members, subject_kinds};
@@ -19,7 +19,8 @@ use crate::member::{
 };
 use crate::object::only;
 use json_tree::Tree;
-use review_policy::{Ask, ProfileAct, ProfileName, ProfileView, RevisionAct, RevisionView};
+use office_words::ProfileName;
+use review_policy::{Ask, ProfileAct, ProfileView, RevisionAct, RevisionView};
 use std::alloc::Global;
 
 /// What a line asks for, by the word under its `ask`.

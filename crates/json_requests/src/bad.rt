@@ -9,7 +9,7 @@ use json_tree::{Writer, written_text};
 use std::alloc::{AllocError, Global};
 
 /// Why a line is no request.
-#[derive(Clone, Copy, Debug)]
+#[derive(Clone, Copy)]
 pub enum BadLine {
     /// It is longer than a line may be.
     TooLong,

@@ -11,7 +11,8 @@ use crate::fault::LineFault;
 use crate::member::{digest_of, vote_of};
 use crate::object::only;
 use json_tree::{ReadFault, Scratch, Tree};
-use review_policy::{Ask, ProfileName};
+use office_words::ProfileName;
+use review_policy::Ask;
 use std::alloc::Global;
 
 // The value that a body is.

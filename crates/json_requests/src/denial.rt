@@ -8,7 +8,8 @@ ghost use Rattle.json_requests.specs.Answers.{reason_members, rule_members, shor
 
 use crate::write::{write_number, write_text};
 use json_tree::Writer;
-use review_policy::{Denial, Need, Rule, Text};
+use office_words::Text;
+use review_policy::{Denial, Need, Rule};
 use std::alloc::AllocError;
 
 // How many approvals there were and how many are needed, where they were too few.

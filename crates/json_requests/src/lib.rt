@@ -13,7 +13,7 @@ pub mod member;
 mod object;
 pub mod request;
 mod revisions;
-mod roles;
+pub mod roles;
 pub mod write;
 
 pub use answer::{answer_text, line};

@@ -3,7 +3,7 @@
 ghost use Rattle.std.specs.Prelude.{◌≡◌, codes, option_and_then, option_map};
 ghost use Rattle.serde_json.specs.Find.{as_str};
 ghost use Rattle.json_tree.specs.View.{view, items_view};
-ghost use Rattle.review_policy.specs.WordTables.{role_of};
+ghost use Rattle.office_words.specs.WordTables.{role_of};
 ghost use Rattle.json_requests.specs.Faults.{Gives};
 ghost use Rattle.json_requests.specs.Members.{text_at, word_at, token_at, name_at, revision_at};
 ghost use Rattle.json_requests.specs.Members.{digest_at, vote_at, roles_of, roles_at};
@@ -11,7 +11,7 @@ ghost use Rattle.json_requests.specs.Members.{before_at, if_revision};
 
 use crate::fault::LineFault;
 use json_tree::Tree;
-use review_policy::{
+use office_words::{
     MAX_REVISIONS, ProfileName, Role, Roles, Token, Word, WordFault, digest_from_hex,
 };
 use std::alloc::Global;

@@ -7,7 +7,7 @@ ghost use Rattle.json_requests.specs.Answers.{revision_data, revisions_data};
 
 use crate::write::{write_digest, write_number, write_text};
 use json_tree::Writer;
-use review_policy::ProfileRevision;
+use office_words::ProfileRevision;
 use std::alloc::{AllocError, Global};
 
 // A revision.

@@ -4,10 +4,11 @@ ghost use Rattle.std.specs.Prelude.{◌∷◌, [], OnOk, codes, flat_map, map};
 ghost use Rattle.serde_json.specs.Data.{array, member, no_members, string};
 ghost use Rattle.serde_json.specs.View.{items_of};
 ghost use Rattle.json_tree.specs.Tokens.{Appends, open_tokens, tokens_of};
-ghost use Rattle.json_requests.specs.Answers.{roles_data, words_among};
+ghost use Rattle.office_words.specs.WordTables.{words_among};
+ghost use Rattle.json_requests.specs.Answers.{roles_data};
 
 use json_tree::Writer;
-use review_policy::{Role, Roles};
+use office_words::{Role, Roles};
 use std::alloc::AllocError;
 
 // The word of a role, where it is one of these.
@@ -39,7 +40,7 @@ fn write_among(out: &mut Writer, roles: Roles, among: &[Role]) -> Result<(), All
 /// # Errors
 ///
 /// Memory was refused. No contract can say when.
-pub(crate) fn write_roles(out: &mut Writer, roles: Roles) -> Result<(), AllocError>
+pub fn write_roles(out: &mut Writer, roles: Roles) -> Result<(), AllocError>
     ensures { OnOk result (Appends out.old out.new
         (open_tokens (member (codes "roles") (roles_data roles) no_members))) }
 {

@@ -5,7 +5,7 @@ use no_memory::NoMemory;
 use std::alloc::{AllocError, AllocFailed};
 
 /// Why bytes were not read.
-#[derive(Clone, Copy, Debug, Drop, PartialEq, Eq)]
+#[derive(Clone, Copy, Drop)]
 pub enum ReadFault {
     /// They are no JSON value.
     NotJson,

@@ -9,7 +9,7 @@ ghost use Rattle.json_tree.specs.View.{number_view};
 use fast_float::Numeral;
 
 /// A number: an integer of 64 bits, or a finite float.
-#[derive(Clone, Copy, Debug, Drop)]
+#[derive(Clone, Copy, Drop)]
 pub enum Number {
     Unsigned(u64),
     Negative(i64),

@@ -8,7 +8,7 @@ use std::alloc::{AllocError, AllocFailed};
 
 /// That an allocation was refused. Its field is private, so it is made of an error that tells of
 /// that, and of nothing else.
-#[derive(Clone, Copy, Debug, Drop, PartialEq, Eq)]
+#[derive(Clone, Copy, Debug, Drop, PartialEq)]
 pub struct NoMemory {
     refused: AllocError,
 }

@@ -24,7 +24,7 @@ use Rattle.changing_commands.specs.Trials.{IsTrial}
 use Rattle.reading_commands.specs.Documents.{HasChecked, HasCompared, HasExecuted}
 use Rattle.reading_commands.specs.Reports.{HasProved, WasToldAt}
 use Rattle.reading_commands.specs.Verifications.{HasVerified}
-use Rattle.office_commands.specs.Unread.{unread_by}
+use Rattle.office_commands.specs.Subjects.{subject_of}
 use Rattle.office_commands.specs.declared.ended.Ended.{Ended}
 use Rattle.no_memory.specs.Witness.{witness}
 use Rattle.no_memory.specs.declared.witness.NoMemory.{«NoMemory» as Want}
@@ -53,50 +53,53 @@ module _ {S D F L N O : Type 0} (k : Known S D F L N) (contents : O → Option (
       words.seal contents output wrote
       × IfSet words.mark (IsMarkedWith k words.database.now words.journal.now (Ok (tt {0})))
 
-  abbrev pub HasRun : Command → (came left : Option (List ℕ)) (output wrote : Counted O) → ℕ
-      → Type 0
-  HasRun command.Trial came left output wrote status =
-      ((want : Option Want) × IsTrial contents came left output wrote want (Ok (tt {0})))
-      × (status ≡ 0)
-  HasRun (command.Check file) came left output wrote status =
-      HasChecked k.opens k.bytes_of contents output wrote file.now × (status ≡ 0)
-  HasRun (command.Execve words) came left output wrote status =
-      HasExecuted k.opens k.bytes_of contents output wrote words status
-  HasRun (command.Init words) came left output wrote status =
-      HasFounded k words × IsWhole contents output wrote (codes "founded\n") × (status ≡ 0)
-  HasRun (command.Desk database journal) came left output wrote status =
-      ((want : Option Want)
-      × IsDesk k contents output wrote came left want database.now journal (Ok (tt {0})))
-      × (status ≡ 0)
-  HasRun (command.Serve words) came left output wrote status =
-      IsServedOver k contents output wrote words (Ok (tt {0})) × (status ≡ 0)
-  HasRun (command.Migrate database without) came left output wrote status =
-      HasMigrated k.store k.databases database.now without
-      × IsWhole contents output wrote (codes "migrated\n") × (status ≡ 0)
-  HasRun (command.Verify words) came left output wrote status =
-      HasVerifiedAll output wrote words × (status ≡ 0)
-  HasRun (command.Rebuild database journal) came left output wrote status =
-      HasRebuilt k.store k.databases database.now (k.opens journal.now) k.gives k.bytes_of
-      contents output wrote × (status ≡ 0)
-  HasRun (command.History words) came left output wrote status =
-      WasToldAt k.opens k.gives k.bytes_of contents output wrote words × (status ≡ 0)
-  HasRun (command.Evidence words) came left output wrote status =
-      HasProved k.opens k.gives k.bytes_of contents output wrote words × (status ≡ 0)
-  HasRun (command.Compare base new) came left output wrote status =
-      HasCompared k.opens k.bytes_of contents output wrote base.now new.now status
+  -- with what standard error had and has
+  module _ {E : Type 0} (said_of : E → Option (List ℕ)) (errors noted : Counted E) where
+    abbrev pub HasRun : Command → (came left : Option (List ℕ)) (output wrote : Counted O) → ℕ
+        → Type 0
+    HasRun command.Trial came left output wrote status =
+        ((want : Option Want)
+        × IsTrial contents said_of came left output wrote errors noted want (Ok (tt {0})))
+        × (status ≡ 0)
+    HasRun (command.Check file) came left output wrote status =
+        HasChecked k.opens k.bytes_of contents output wrote file.now × (status ≡ 0)
+    HasRun (command.Execve words) came left output wrote status =
+        HasExecuted k.opens k.bytes_of contents output wrote words status
+    HasRun (command.Init words) came left output wrote status =
+        HasFounded k words × IsWhole contents output wrote (codes "founded\n") × (status ≡ 0)
+    HasRun (command.Desk database journal) came left output wrote status =
+        ((want : Option Want)
+        × IsDesk k contents output wrote said_of errors noted came left want database.now journal
+        (Ok (tt {0})))
+        × (status ≡ 0)
+    HasRun (command.Serve words) came left output wrote status =
+        IsServedOver k contents output wrote words (Ok (tt {0})) × (status ≡ 0)
+    HasRun (command.Migrate database without) came left output wrote status =
+        HasMigrated k.store k.databases database.now without
+        × IsWhole contents output wrote (codes "migrated\n") × (status ≡ 0)
+    HasRun (command.Verify words) came left output wrote status =
+        HasVerifiedAll output wrote words × (status ≡ 0)
+    HasRun (command.Rebuild database journal) came left output wrote status =
+        HasRebuilt k.store k.databases database.now (k.opens journal.now) k.gives k.bytes_of
+        contents output wrote × (status ≡ 0)
+    HasRun (command.History words) came left output wrote status =
+        WasToldAt k.opens k.gives k.bytes_of contents output wrote words × (status ≡ 0)
+    HasRun (command.Evidence words) came left output wrote status =
+        HasProved k.opens k.gives k.bytes_of contents output wrote words × (status ≡ 0)
+    HasRun (command.Compare base new) came left output wrote status =
+        HasCompared k.opens k.bytes_of contents output wrote base.now new.now status
 
 -- what was said on standard error at the end
 module _ {E : Type 0} (said_of : E → Option (List ℕ)) (said : Counted E) where
   -- A command ended so: well, as this says, with nothing said but what it noted; or it was refused or
-  -- failed, as that says, and then why was said, and which file couldn't be read.
-  abbrev pub HasEnded : Command → (NotesWell Notes : Counted E → Type 0) → (Run : ℕ → Type 0)
-      → (Fails : CommandFault → Type 0) → Ended → Type 0
+  -- failed, as that says, and then why was said, and what that is about.
+  abbrev pub HasEnded : Command → (NotesWell Notes : Counted E → Type 0)
+      → (Run : Counted E → ℕ → Type 0) → (Fails : Counted E → CommandFault → Type 0) → Ended → Type 0
   HasEnded asked NotesWell Notes Run Fails ended =
-      (Run ended.status × NotesWell said × (ended ≡ ended_well ended.status))
-      ⊎ ((why : CommandFault) × (ended.why ≡ Some why) × Fails why
-      × (ended.status ≡ failed_status asked)
-      × ((noted : Counted E) × Notes noted
-      × IsRefusal said_of noted said why (unread_by asked why) ended.witness))
+      (Run said ended.status × NotesWell said × (ended ≡ ended_well ended.status))
+      ⊎ ((why : CommandFault) × (ended.why ≡ Some why) × (ended.status ≡ failed_status asked)
+      × ((noted : Counted E) × Fails noted why × Notes noted
+      × IsRefusal said_of noted said why (subject_of asked why) ended.witness))
 
 -- what was said there
 module _ {E : Type 0} (said_of : E → Option (List ℕ)) (errors said : Counted E) where
@@ -124,8 +127,8 @@ module _ {E : Type 0} (said_of : E → Option (List ℕ)) (errors said : Counted
     -- Words were carried out: the command that they ask for, with the first noted and this done where it
     -- ended well, and the second noted and that done where it failed, or why they ask for none was told.
     abbrev pub HasRunWords : (NotesWell Notes : Command → Counted E → Type 0)
-        → (Run : Command → ℕ → Type 0) → (Fails : Command → CommandFault → Type 0)
-        → List (String Global) → Ended → Type 0
+        → (Run : Command → Counted E → ℕ → Type 0)
+        → (Fails : Command → Counted E → CommandFault → Type 0) → List (String Global) → Ended → Type 0
     HasRunWords NotesWell Notes Run Fails words ended =
         ((asked : Command) × AskFor words asked
         × HasEnded said_of said asked (NotesWell asked) (Notes asked) (Run asked) (Fails asked) ended)

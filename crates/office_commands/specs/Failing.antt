@@ -38,34 +38,38 @@ module _ {S D F L N O : Type 0} (k : Known S D F L N) (contents : O → Option (
       words.seal contents output wrote
       × IsMarkedWith k words.database.now words.journal.now (Err why))
 
-  abbrev pub HasFailed : Command → (came left : Option (List ℕ)) (output wrote : Counted O)
-      → CommandFault → Type 0
-  HasFailed command.Trial came left output wrote why =
-      (want : Option Want) × IsTrial contents came left output wrote want (Err why)
-  HasFailed (command.Check file) came left output wrote why =
-      FailsToCheck k.opens k.gives k.bytes_of contents output wrote file.now why
-  HasFailed (command.Execve words) came left output wrote why =
-      FailsToExecute k.opens k.gives k.bytes_of contents output wrote words why
-  HasFailed (command.Init words) came left output wrote why =
-      FailsToSay contents output wrote (codes "founded\n") (HasFounded k words)
-      (FailsToInit k words why) why
-  HasFailed (command.Desk database journal) came left output wrote why =
-      (want : Option Want)
-      × IsDesk k contents output wrote came left want database.now journal (Err why)
-  HasFailed (command.Serve words) came left output wrote why =
-      IsServedOver k contents output wrote words (Err why)
-  HasFailed (command.Migrate database without) came left output wrote why =
-      FailsToSay contents output wrote (codes "migrated\n")
-      (HasMigrated k.store k.databases database.now without)
-      (FailsToMigrateAt k.store k.databases database.now without why) why
-  HasFailed (command.Verify words) came left output wrote why =
-      FailsToVerifyAll output wrote words why
-  HasFailed (command.Rebuild database journal) came left output wrote why =
-      FailsToRebuild k.store k.databases database.now (k.opens journal.now) k.gives k.bytes_of
-      contents output wrote why
-  HasFailed (command.History words) came left output wrote why =
-      IsUntoldAt k.opens k.gives k.bytes_of contents output wrote words why
-  HasFailed (command.Evidence words) came left output wrote why =
-      FailsToProve k.opens k.gives k.bytes_of contents output wrote words why
-  HasFailed (command.Compare base new) came left output wrote why =
-      FailsToCompare k.opens k.gives k.bytes_of contents output wrote base.now new.now why
+  -- with what standard error had and has
+  module _ {E : Type 0} (said_of : E → Option (List ℕ)) (errors noted : Counted E) where
+    abbrev pub HasFailed : Command → (came left : Option (List ℕ)) (output wrote : Counted O)
+        → CommandFault → Type 0
+    HasFailed command.Trial came left output wrote why =
+        (want : Option Want)
+        × IsTrial contents said_of came left output wrote errors noted want (Err why)
+    HasFailed (command.Check file) came left output wrote why =
+        FailsToCheck k.opens k.gives k.bytes_of contents output wrote file.now why
+    HasFailed (command.Execve words) came left output wrote why =
+        FailsToExecute k.opens k.gives k.bytes_of contents output wrote words why
+    HasFailed (command.Init words) came left output wrote why =
+        FailsToSay contents output wrote (codes "founded\n") (HasFounded k words)
+        (FailsToInit k words why) why
+    HasFailed (command.Desk database journal) came left output wrote why =
+        (want : Option Want)
+        × IsDesk k contents output wrote said_of errors noted came left want database.now journal
+        (Err why)
+    HasFailed (command.Serve words) came left output wrote why =
+        IsServedOver k contents output wrote words (Err why)
+    HasFailed (command.Migrate database without) came left output wrote why =
+        FailsToSay contents output wrote (codes "migrated\n")
+        (HasMigrated k.store k.databases database.now without)
+        (FailsToMigrateAt k.store k.databases database.now without why) why
+    HasFailed (command.Verify words) came left output wrote why =
+        FailsToVerifyAll output wrote words why
+    HasFailed (command.Rebuild database journal) came left output wrote why =
+        FailsToRebuild k.store k.databases database.now (k.opens journal.now) k.gives k.bytes_of
+        contents output wrote why
+    HasFailed (command.History words) came left output wrote why =
+        IsUntoldAt k.opens k.gives k.bytes_of contents output wrote words why
+    HasFailed (command.Evidence words) came left output wrote why =
+        FailsToProve k.opens k.gives k.bytes_of contents output wrote words why
+    HasFailed (command.Compare base new) came left output wrote why =
+        FailsToCompare k.opens k.gives k.bytes_of contents output wrote base.now new.now why

@@ -10,7 +10,7 @@ use Rattle.sqlite_disk.specs.declared.modelled.Modelled.{Modelled}
 use Rattle.sqlite_std_file.specs.contracts.host.HostCalls.TheImpl.{ghosts as host_calls}
 use Rattle.sqlite_std_file.specs.declared.host.Host.{Host}
 use Rattle.sqlite_wal.specs.Files.{image_at}
-use Rattle.named_disk.specs.declared.disk.NamedDisk.{NamedDisk}
+use Rattle.database_files.specs.declared.disk.NamedDisk.{NamedDisk}
 use Rattle.desk_http.specs.declared.clock.PassClock as clock
 use Rattle.command_host.specs.HostFiles.{IsClosedInto, IsFoundIn}
 use Rattle.command_host.specs.Known.{Known}
@@ -19,7 +19,7 @@ use Rattle.command_host.specs.declared.files.PassFiles as files
 use Rattle.command_host.specs.declared.host_files.ClosedFiles.{ClosedFiles}
 use Rattle.command_host.specs.declared.host_files.HostFiles.{HostFiles}
 use Rattle.command_host.specs.declared.host_files.UnknownFiles.{UnknownFiles}
-use Rattle.command_host.specs.declared.host_journals.HostName.{HostName}
+use Rattle.command_host.specs.declared.host_name.HostName.{HostName}
 use Rattle.command_host.specs.declared.journals.Journals as journals
 use Rattle.command_host.specs.declared.network.PassNet as net
 
@@ -51,19 +51,16 @@ known_of {C = C} store databases f bytes_of files j log journals n c = record {
 abbrev pub unknown : start.Ghosts UnknownFiles
 unknown = record { log = []; db = []; is_mixing = true }
 
--- the file of a database, and that of a journal, which held this as they were opened
-abbrev pub DatabaseFile : {T : Type 0} → start.Ghosts T → Type 0
-DatabaseFile {T} held = Modelled Host T host_calls held
-
-abbrev pub JournalFile : {T : Type 0} → start.Ghosts T → Type 0
-JournalFile held = NamedDisk (DatabaseFile held) HostName
+-- a file of a database or of a journal, which held this as it was opened
+abbrev pub HostFile : {T : Type 0} → start.Ghosts T → Type 0
+HostFile {T} held = NamedDisk (Modelled Host T host_calls held) HostName
 
 module _ {T U : Type 0} (held : start.Ghosts T) (journal : start.Ghosts U)
-    (g : disk.Ghosts (DatabaseFile held)) (log : disk.Ghosts (JournalFile journal)) where
+    (g : disk.Ghosts (HostFile held)) (log : disk.Ghosts (HostFile journal)) where
   -- what is known of databases in such files: they show what these held, and a close gives back files
   -- that have all of it
   abbrev pub host_databases
-      : databases.Ghosts (HostFiles T) (Held (FileStore (DatabaseFile held) g)) (ClosedFiles T held)
+      : databases.Ghosts (HostFiles T) (Held (FileStore (HostFile held) g)) (ClosedFiles T held)
   host_databases = record {
     sees = λ path is. ⊤;
     marked = λ path mark. ⊤;
@@ -76,7 +73,7 @@ module _ {T U : Type 0} (held : start.Ghosts T) (journal : start.Ghosts U)
   -- what is known of the host, by what its files held, and of the files that are read there. Of its journals, its
   -- network and its clock that is only that they were called.
   abbrev pub known_here : {F I R N : Type 0} → files.Ghosts F I R → (bytes_of : I → Option (List ℕ)) → F → N
-      → Known (FileStore (DatabaseFile held) g) (HostFiles T) I (JournalFile journal) N
+      → Known (FileStore (HostFile held) g) (HostFiles T) I (HostFile journal) N
   known_here f bytes_of files network = record {
     store = over_files;
     Closed = ClosedFiles T held;
@@ -87,7 +84,7 @@ module _ {T U : Type 0} (held : start.Ghosts T) (journal : start.Ghosts U)
     log = log;
     creates = λ path made. ⊤;
     finds = λ path found. ⊤;
-    removes = λ path removed. ⊤;
+    removes = λ path file removed. ⊤;
     shows = λ clock told. ⊤;
     binds = λ network address bound. ⊤;
     tells = λ network listener told. ⊤;

@@ -1,4 +1,4 @@
-pub mod Unread
+pub mod Subjects
 pub mod Commands
 pub mod Failing
 pub mod Notes

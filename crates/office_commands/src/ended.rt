@@ -4,7 +4,7 @@ use command_host::CommandFault;
 use no_memory::NoMemory;
 
 /// How the words of a command line ended.
-#[derive(Debug, Drop)]
+#[derive(Drop)]
 pub struct Ended {
     /// The status that the program ends with.
     pub status: u8,

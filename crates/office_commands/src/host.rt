@@ -2,6 +2,7 @@
 
 ghost use Rattle.office_commands.specs.Apart.{HasCarriedOut};
 ghost use Rattle.office_commands.specs.Hosts.{known_here, known_of, unknown};
+ghost use Rattle.sqlite.specs.Files.{over_files};
 ghost use Rattle.streams.specs.CallsLeft.{HasCallsLeft, HasFaultsLeft};
 
 use crate::ended::Ended;
@@ -10,8 +11,8 @@ use command_host::{
     Databases, HostFiles, HostJournals, HostName, HostOf, Journals, Network, Outside, PassFiles,
     UnknownFiles,
 };
-use named_disk::NamedDisk;
-use sqlite::{Alter, Connection, FileFrom, Start};
+use database_files::NamedDisk;
+use sqlite::{Alter, Connection, FileFrom, FileStore, Start};
 use sqlite_disk::Disk;
 use std::alloc::Global;
 use std::io::{Read, Write};
@@ -69,6 +70,37 @@ impl<
     }
 }
 
+// [`Parts::run_over`], where databases are in files of any kind. It stands between, since the kit compares
+// all that a store in files of one kind is made of, where these are named at once.
+fn run_over_files<
+    'h,
+    K: Disk + Drop + 'h,
+    D: Databases<Database = Connection<FileStore<K>>>,
+    F: PassFiles,
+    J: Journals,
+    N: Network,
+    I: Read,
+    O: Write,
+    E: Write,
+>(
+    parts: Parts<'h, FileStore<K>, D, F, J, N>,
+    alloc: Global,
+    words: &[String],
+    input: &mut Counted<I>,
+    output: &mut Counted<O>,
+    errors: &mut Counted<E>,
+) -> Ended
+    requires reads { HasCallsLeft input.old }
+    requires writes { HasFaultsLeft output.old }
+    ensures { HasCarriedOut
+        (known_of over_files D.Databases F.PassFiles F.File.remaining parts.entry.files.now
+        J.Journals J.File.Disk parts.entry.journals.now N.PassNet N.PassClock)
+        O.contents (I.remaining input.old.inner) (I.remaining input.new.inner)
+        output.old output.new E.contents errors.old errors.new words.entry.now result }
+{
+    parts.run_over(alloc, words, input, output, errors)
+}
+
 // What files hold as they are opened: those of databases, and those of journals.
 #[derive(Drop)]
 struct Starts<T: Start + Copy, U: Start + Copy> {
@@ -91,7 +123,7 @@ impl<T: Start + Copy, U: Start + Copy> Starts<T, U> {
         requires reads { HasCallsLeft input.old }
         requires writes { HasFaultsLeft output.old }
         ensures { HasCarriedOut
-            (known_here T.Start U.Start ⟦<FileFrom<T> as Disk>⟧
+            (known_here T.Start U.Start ⟦<NamedDisk<FileFrom<T>, HostName> as Disk>⟧
             ⟦<NamedDisk<FileFrom<U>, HostName> as Disk>⟧
             F.PassFiles F.File.remaining files.now rt.now)
             O.contents (I.remaining input.old.inner) (I.remaining input.new.inner)
@@ -106,7 +138,7 @@ impl<T: Start + Copy, U: Start + Copy> Starts<T, U> {
             network: rt,
             tables: PhantomData,
         };
-        parts.run_over(rt.alloc(), words, input, output, errors)
+        run_over_files(parts, rt.alloc(), words, input, output, errors)
     }
 }
 
@@ -123,7 +155,7 @@ pub fn run_here<F: PassFiles, I: Read, O: Write, E: Write>(
     requires reads { HasCallsLeft input.old }
     requires writes { HasFaultsLeft output.old }
     ensures { HasCarriedOut
-        (known_here unknown unknown ⟦<FileFrom<UnknownFiles> as Disk>⟧
+        (known_here unknown unknown ⟦<NamedDisk<FileFrom<UnknownFiles>, HostName> as Disk>⟧
         ⟦<NamedDisk<FileFrom<UnknownFiles>, HostName> as Disk>⟧
         F.PassFiles F.File.remaining files.now rt.now)
         O.contents (I.remaining input.old.inner) (I.remaining input.new.inner)

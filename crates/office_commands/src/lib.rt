@@ -6,7 +6,7 @@ mod ended;
 mod host;
 mod run;
 mod same_file;
-mod unread;
+mod subject;
 
 pub use ended::Ended;
 pub use host::{Parts, run_here};

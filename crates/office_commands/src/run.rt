@@ -8,14 +8,14 @@ ghost use Rattle.office_commands.specs.Commands.{ended_well, failed_status, HasR
 ghost use Rattle.office_commands.specs.Commands.{HasVerifiedAll, IsPrinted};
 ghost use Rattle.office_commands.specs.Failing.{FailsToVerifyAll, HasFailed};
 ghost use Rattle.office_commands.specs.Notes.{goes_without, is_without, HasNoted, HasNotedAll};
-ghost use Rattle.office_commands.specs.Notes.{HasNotedAllWell, HasNotedWell, WarnsIf};
-ghost use Rattle.office_commands.specs.Unread.{unread_by};
+ghost use Rattle.office_commands.specs.Notes.{HasNotedAllWell, HasNotedWell, SaysIf};
+ghost use Rattle.office_commands.specs.Subjects.{subject_of};
 ghost use Rattle.reading_commands.specs.Moments.{HasCompared, MayHaveNoted};
 ghost use Rattle.streams.specs.CallsLeft.{HasCallsLeft, HasFaultsLeft};
 
 use crate::ended::Ended;
 use crate::same_file::see_apart;
-use crate::unread::unread_by;
+use crate::subject::subject_of;
 use changing_commands::{
     found_at, mark_stored, migrate_at, run_rebuild, serve_http, serve_stored, serve_trial,
 };
@@ -74,9 +74,11 @@ fn run<H: Host, I: Read, O: Write, E: Write>(
 ) -> Result<u8, CommandFault>
     requires reads { HasCallsLeft input.old }
     requires writes { HasFaultsLeft output.old }
-    ensures done { IfOk result (HasRun (known host.now) O.contents command.now
-        (I.remaining input.old.inner) (I.remaining input.new.inner) output.old output.new) }
-    ensures failed { IfErr result (HasFailed (known host.now) O.contents command.now
+    ensures done { IfOk result (HasRun (known host.now) O.contents E.contents errors.old errors.new
+        command.now (I.remaining input.old.inner) (I.remaining input.new.inner)
+        output.old output.new) }
+    ensures failed { IfErr result (HasFailed (known host.now) O.contents
+        E.contents errors.old errors.new command.now
         (I.remaining input.old.inner) (I.remaining input.new.inner) output.old output.new) }
     ensures noted_well { IfOk result (λ _. HasNotedWell (known host.now) E.contents
         errors.old errors.new command.now) }
@@ -84,7 +86,7 @@ fn run<H: Host, I: Read, O: Write, E: Write>(
 {
     match command {
         Command::Trial => {
-            serve_trial(alloc, input, output).ended?;
+            serve_trial(alloc, input, output, errors).ended?;
             Ok(0)
         }
         Command::Check { file } => run_check(host.files, alloc, file, output),
@@ -92,6 +94,7 @@ fn run<H: Host, I: Read, O: Write, E: Write>(
         Command::Init(words) => {
             found_at(host, alloc, words)?;
             print(output, "founded\n")?;
+            say_if(words.journal.is_none(), NEVER, errors);
             Ok(0)
         }
         Command::Serve(words) => {
@@ -107,7 +110,7 @@ fn run<H: Host, I: Read, O: Write, E: Write>(
             Ok(0)
         }
         Command::Desk { database, journal } => {
-            serve_stored(host, alloc, database, *journal, input, output).ended?;
+            serve_stored(host, alloc, database, *journal, input, output, errors).ended?;
             Ok(0)
         }
         Command::Compare { base, new } => run_compare(host.files, alloc, base, new, output),
@@ -119,6 +122,9 @@ fn run<H: Host, I: Read, O: Write, E: Write>(
         Command::Evidence(words) => run_evidence(host.files, alloc, words, output),
     }
 }
+
+// The line that says that an office was founded without a journal.
+const NEVER: &str = "office: without a journal, which this office will never have\n";
 
 // The line that says that an office goes on without its journal.
 const WITHOUT: &str =
@@ -149,12 +155,12 @@ fn goes_without(command: &Command<'_>) -> bool
     }
 }
 
-// Says of a command that the office goes on without its journal, where it does.
-fn warn<E: Write>(command: &Command<'_>, errors: &mut Counted<E>)
-    ensures { WarnsIf E.contents errors.old errors.new (goes_without command.now) }
+// Says a line, where it is to be said.
+fn say_if<E: Write>(is_said: bool, line: &str, errors: &mut Counted<E>)
+    ensures { SaysIf E.contents errors.old errors.new is_said line.now }
 {
-    if goes_without(command) {
-        say(errors, WITHOUT);
+    if is_said {
+        say(errors, line);
     }
 }
 
@@ -172,34 +178,34 @@ fn run_apart<H: Host, I: Read, O: Write, E: Write>(
     requires writes { HasFaultsLeft output.old }
     ensures done { IfOk result (HasRunApart (known host.now) O.contents
         (I.remaining input.old.inner) (I.remaining input.new.inner)
-        output.old output.new command.now) }
+        output.old output.new E.contents errors.old command.now errors.new) }
     ensures failed { IfErr result (HasFailedApart (known host.now) O.contents
         (I.remaining input.old.inner) (I.remaining input.new.inner)
-        output.old output.new command.now) }
+        output.old output.new E.contents errors.old command.now errors.new) }
     ensures noted_well { IfOk result (λ _. HasNotedAllWell (known host.now) E.contents
         errors.old errors.new command.now) }
     ensures noted { HasNotedAll (known host.now) E.contents errors.old errors.new command.now }
 {
     see_apart(host.journals, command)?;
-    warn(command, errors);
+    say_if(goes_without(command), WITHOUT, errors);
     run(host, alloc, command, input, output, errors)
 }
 
-// Says why a command was refused or failed, or a text wasn't printed; and at which path a file couldn't
-// be read, where it is that. The program ends with this status then.
+// Says why a command was refused or failed, or a text wasn't printed; and what that is about, where that
+// is given. The program ends with this status then.
 fn ended_by<E: Write>(
     alloc: Global,
     errors: &mut Counted<E>,
     status: u8,
     why: CommandFault,
-    unread: Option<&str>,
+    subject: Option<&str>,
 ) -> Ended
     ensures status { result.status ≡ status }
     ensures why { result.why ≡ Some why }
-    ensures said { IsRefusal E.contents errors.old errors.new why (option_copied unread.entry)
+    ensures said { IsRefusal E.contents errors.old errors.new why (option_copied subject.entry)
         result.witness }
 {
-    let witness = refuse(alloc, errors, &why, unread);
+    let witness = refuse(alloc, errors, &why, subject);
     Ended {
         status,
         why: Some(why),
@@ -248,8 +254,7 @@ fn tell<O: Write, E: Write>(
     }
 }
 
-// How the program ends. Where a command was refused or failed, that is said, with the word for a file
-// that couldn't be read.
+// How the program ends. Where a command was refused or failed, that is said, with what it is about.
 fn ended_of<E: Write>(
     alloc: Global,
     errors: &mut Counted<E>,
@@ -259,14 +264,14 @@ fn ended_of<E: Write>(
     ensures { MatchResult came
         (λ status. (result ≡ ended_well status) × (errors.new ≡ errors.old))
         (λ why. (result.status ≡ failed_status command.now) × (result.why ≡ Some why)
-        × IsRefusal E.contents errors.old errors.new why (unread_by command.now why)
+        × IsRefusal E.contents errors.old errors.new why (subject_of command.now why)
         result.witness) }
 {
     match came {
         Ok(status) => Ended::well(status),
         Err(fault) => {
-            let unread = unread_by(command, &fault);
-            ended_by(alloc, errors, failed_status(command), fault, unread)
+            let subject = subject_of(alloc, command, &fault);
+            ended_by(alloc, errors, failed_status(command), fault, subject)
         }
     }
 }

@@ -9,9 +9,9 @@ use Rattle.sqlite.specs.Source.TheVariants.{Values}
 use Rattle.sqlite.specs.Held.{state}
 use Rattle.sqlite_tied.specs.Compute.{everything}
 use Rattle.sqlite.specs.Listing.{understood}
-use Rattle.office_tables.specs.declared.row.UserRow.{UserRow}
-use Rattle.office_tables.specs.Tables.{Tables}
-use Rattle.office_tables.specs.Changes.{with_user}
+use Rattle.office_words.specs.declared.row.UserRow.{UserRow}
+use Rattle.office_words.specs.Tables.{Tables}
+use Rattle.office_words.specs.Changes.{with_user}
 use Rattle.office_rows.specs.Statements.{Statement}
 use Rattle.office_rows.proofs.Plain.{Means}
 use Rattle.office_rows.proofs.Failing.{insert_failed}

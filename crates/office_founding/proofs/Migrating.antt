@@ -7,9 +7,9 @@ use Rattle.sqlite.specs.Store.{Ghosts}
 use Rattle.sqlite.specs.State.{State, HasCleanDisk, Survives, Shows as Sees}
 use Rattle.sqlite.specs.Tree.{Trees}
 use Rattle.sqlite.proofs.StateLemmas.{survives_weaker, survives_then}
-use Rattle.office_tables.specs.Tables.{Tables}
-use Rattle.review_policy.specs.declared.fault.Fault.{Fault}
-use Rattle.review_policy.specs.declared.fault.Fault.TheVariants.{NotAnOffice}
+use Rattle.office_words.specs.Tables.{Tables}
+use Rattle.office_words.specs.declared.fault.Fault.{Fault}
+use Rattle.office_words.specs.declared.fault.Fault.TheVariants.{NotAnOffice}
 use Rattle.office_rows.specs.Faults.{fault_of_error}
 use Rattle.office_rows.specs.Queries.{IsAsItWas}
 use Rattle.office_rows.specs.Statements.{begun, RanAll, FailedIn}

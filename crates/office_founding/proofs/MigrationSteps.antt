@@ -30,7 +30,7 @@ use Rattle.sqlite_rules.specs.Calls.{ids_of}
 use Rattle.sqlite_resolve.specs.declared.error.CompileError.{CompileError}
 use Rattle.sqlite_tied.specs.Compute.{everything}
 use Rattle.sqlite.proofs.Callers.{statement_of, runs_as, one_step, one_permutation}
-use Rattle.office_tables.specs.Tables.{Tables}
+use Rattle.office_words.specs.Tables.{Tables}
 use Rattle.office_rows.specs.Entries.{Keeps}
 use Rattle.office_rows.specs.Faults.{IsOfMachine}
 use Rattle.office_rows.specs.Statements.{RanAll, FailedIn}

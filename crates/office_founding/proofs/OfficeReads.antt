@@ -9,8 +9,8 @@ use Rattle.sqlite.specs.State.{State}
 use Rattle.sqlite_tied.specs.Compute.{everything}
 use Rattle.sqlite.specs.Listing.{understood}
 use Rattle.sqlite_rules.specs.Lists.{Has}
-use Rattle.review_policy.specs.declared.fault.Fault.{Fault}
-use Rattle.office_tables.specs.Tables.{Tables}
+use Rattle.office_words.specs.declared.fault.Fault.{Fault}
+use Rattle.office_words.specs.Tables.{Tables}
 use Rattle.office_rows.specs.Entries.{Keeps}
 use Rattle.office_rows.specs.Faults.{FindsRow}
 use Rattle.office_rows.proofs.Plain.{plain_query, Means}

@@ -11,9 +11,9 @@ use Rattle.sqlite_tied.specs.Compute.{everything}
 use Rattle.sqlite.specs.Listing.{understood}
 use Rattle.sqlite_schema.specs.Names.{same_name}
 use Rattle.sqlite_rules.specs.Lists.{Has}
-use Rattle.review_policy.specs.declared.fault.Fault.{Fault}
-use Rattle.review_policy.specs.declared.fault.Fault.TheVariants.{NotAnOffice}
-use Rattle.office_tables.specs.Tables.{Tables}
+use Rattle.office_words.specs.declared.fault.Fault.{Fault}
+use Rattle.office_words.specs.declared.fault.Fault.TheVariants.{NotAnOffice}
+use Rattle.office_words.specs.Tables.{Tables}
 use Rattle.office_rows.specs.Entries.{Keeps}
 use Rattle.office_rows.specs.Faults.{FindsRow}
 use Rattle.office_rows.proofs.Plain.{plain_query, Means}

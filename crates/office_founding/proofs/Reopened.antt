@@ -36,7 +36,7 @@ use Rattle.sqlite_wal.specs.Files.{outcomes}
 use Rattle.sqlite_wal.specs.Recovery.{Image}
 use Rattle.sqlite_wal.proofs.LogLemmas.{SeenMayStay}
 use Rattle.std.proofs.Math.Logic.{∥∥₁_elim, ∥∥₁_map}
-use Rattle.office_tables.specs.Tables.{Tables}
+use Rattle.office_words.specs.Tables.{Tables}
 use Rattle.office_store.specs.Schema.{office_schema, old_schema}
 use Rattle.office_store.specs.Shown.{IsOffice, AreOffice, Shows}
 use Rattle.office_founding.specs.Migration.{IsOldOffice, AreOldOffice, ShowsOld}

@@ -11,10 +11,10 @@ use Rattle.sqlite.specs.Table.{Table}
 use Rattle.sqlite.specs.Schema.{Schema}
 use Rattle.sqlite.specs.Kind.TheVariants.{Text}
 use Rattle.sqlite.specs.Change.{created}
-use Rattle.review_policy.specs.declared.ask.ProfileName.{ProfileName}
-use Rattle.review_policy.specs.declared.revision.State.TheVariants.{Issued}
-use Rattle.office_tables.specs.declared.row.UserRow.{UserRow}
-use Rattle.office_tables.specs.Tables.{Tables, is_profile}
+use Rattle.office_words.specs.declared.name.ProfileName.{ProfileName}
+use Rattle.office_words.specs.declared.revision.State.TheVariants.{Issued}
+use Rattle.office_words.specs.declared.row.UserRow.{UserRow}
+use Rattle.office_words.specs.Tables.{Tables, is_profile}
 use Rattle.office_rows.specs.Entries.{row_of}
 use Rattle.office_store.specs.Entries.{BaselineEntry, Revision, VoteEntry, baseline_entry}
 use Rattle.office_store.specs.Entries.{baseline_row, is_named, revision_key, revision_row}

@@ -1,6 +1,6 @@
 -- The words of why no office is founded, why none is opened, and why one isn't migrated.
 use Rattle.std.specs.Prelude.{ℕ, List, codes}
-use Rattle.review_policy.specs.WordTables.{fault_word}
+use Rattle.office_words.specs.WordTables.{fault_word}
 use Rattle.office_founding.specs.declared.fault.FoundingFault.{FoundingFault}
 use Rattle.office_founding.specs.declared.fault.FoundingFault.TheVariants as founding
 use Rattle.office_founding.specs.declared.fault.MigrationFault.{MigrationFault}

@@ -8,10 +8,10 @@ use Rattle.sqlite.specs.Schema.{Schema}
 use Rattle.sqlite.specs.Store.{Ghosts}
 use Rattle.sqlite.specs.Held.{Held, state}
 use Rattle.sqlite_schema.specs.Names.{table_named}
-use Rattle.review_policy.specs.declared.fault.Fault.TheVariants.{NotAnOffice}
-use Rattle.office_tables.specs.declared.row.UserRow.{UserRow}
-use Rattle.office_tables.specs.Tables.{Tables}
-use Rattle.office_tables.specs.Changes.{founded_tables}
+use Rattle.office_words.specs.declared.fault.Fault.TheVariants.{NotAnOffice}
+use Rattle.office_words.specs.declared.row.UserRow.{UserRow}
+use Rattle.office_words.specs.Tables.{Tables}
+use Rattle.office_words.specs.Changes.{founded_tables}
 use Rattle.office_rows.specs.Statements.{Statement, HasMet}
 use Rattle.office_founding.specs.declared.fault.FoundingFault.{FoundingFault}
 use Rattle.office_founding.specs.declared.fault.FoundingFault.TheVariants.{AlreadyFounded, Store}

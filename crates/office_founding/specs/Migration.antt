@@ -8,10 +8,10 @@ use Rattle.sqlite.specs.Store.{Ghosts}
 use Rattle.sqlite.specs.Held.{Held, state}
 use Rattle.sqlite.specs.State.{State, HasCleanDisk, Survives}
 use Rattle.sqlite_trees.specs.Tree.{Trees}
-use Rattle.review_policy.specs.declared.ask.ProfileName.{ProfileName}
-use Rattle.review_policy.specs.declared.fault.Fault.{Fault}
-use Rattle.review_policy.specs.declared.fault.Fault.TheVariants.{NotAnOffice}
-use Rattle.office_tables.specs.Tables.{Tables}
+use Rattle.office_words.specs.declared.name.ProfileName.{ProfileName}
+use Rattle.office_words.specs.declared.fault.Fault.{Fault}
+use Rattle.office_words.specs.declared.fault.Fault.TheVariants.{NotAnOffice}
+use Rattle.office_words.specs.Tables.{Tables}
 use Rattle.office_rows.specs.Queries.{IsAsItWas}
 use Rattle.office_rows.specs.Statements.{Statement, HasMet}
 use Rattle.office_rows.specs.Told.{TellsRow}

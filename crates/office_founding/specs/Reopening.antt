@@ -2,7 +2,7 @@
 use Rattle.sqlite_wal.specs.Recovery.{Image}
 use Rattle.sqlite_trees.specs.Tree.{Trees}
 use Rattle.sqlite.specs.Files.{HoldsDatabase}
-use Rattle.office_tables.specs.Tables.{Tables}
+use Rattle.office_words.specs.Tables.{Tables}
 use Rattle.office_store.specs.Shown.{AreOffice}
 use Rattle.office_founding.specs.Migration.{AreOldOffice}
 

@@ -7,7 +7,7 @@ ghost use Rattle.office_rows.specs.Told.{IsOfRow};
 
 use cap_sets::Caps;
 use office_rows::fault_of_error;
-use review_policy::Fault;
+use office_words::Fault;
 use sqlite::Row;
 
 // The bits of a column.

@@ -1,11 +1,11 @@
 //! Why no office is founded, why none is opened, and why one isn't migrated.
 
-use review_policy::Fault;
+use office_words::Fault;
 use std::error::Error;
 use std::fmt;
 
 /// Why no office is founded. Where the store is still open, it is as it was. Its text is one word.
-#[derive(Clone, Copy, Debug, Drop, PartialEq, Eq)]
+#[derive(Clone, Copy, Debug, Drop)]
 pub enum FoundingFault {
     /// One of the tables of an office is there.
     AlreadyFounded,
@@ -31,7 +31,7 @@ impl Error for FoundingFault {}
 
 /// Why a store isn't opened as an office. Where it is still open, it is as it was. Its text is one
 /// word.
-#[derive(Clone, Copy, Debug, Drop, PartialEq, Eq)]
+#[derive(Clone, Copy, Debug, Drop)]
 pub enum OpeningFault {
     /// The office is of schema 1, and `migrate` makes it one of schema 2.
     OldSchema,
@@ -60,7 +60,7 @@ impl Error for OpeningFault {}
 
 /// Why an office of schema 1 isn't made one of schema 2. Where the store is still open, it is as it
 /// was. Its text is one word.
-#[derive(Clone, Copy, Debug, Drop, PartialEq, Eq)]
+#[derive(Clone, Copy, Debug, Drop)]
 pub enum MigrationFault {
     /// The office is of schema 2.
     AlreadyMigrated,

@@ -5,7 +5,7 @@ ghost use Rattle.std.specs.List.{list_all};
 ghost use Rattle.sqlite.specs.Held.{state};
 ghost use Rattle.sqlite.specs.State.{HasCleanDisk};
 ghost use Rattle.office_rows.specs.Told.{IsOfRow, IsTold};
-ghost use Rattle.office_tables.specs.Tables.{Tables};
+ghost use Rattle.office_words.specs.Tables.{Tables};
 ghost use Rattle.office_store.specs.Connections.{AcceptsFormed, FindsFirst, Reads, ReadsFirst};
 ghost use Rattle.office_store.specs.Shown.{IsIdle};
 ghost use Rattle.office_founding.specs.Form.{has_column, has_old_tables, has_holds, has_indexes};
@@ -19,7 +19,7 @@ use crate::fault::OpeningFault;
 use cap_sets::Caps;
 use office_rows::first_row;
 use office_store::number_at;
-use review_policy::Fault;
+use office_words::Fault;
 use sqlite::{Alter, Connection, Row};
 use sqlite_schema::schema::Schema;
 

@@ -23,7 +23,7 @@ use office_store::schema::{
     CREATE_BASELINES, CREATE_BY_AUTHOR, CREATE_BY_STATE, CREATE_HOLDS, CREATE_OFFICE,
     CREATE_REVISIONS, CREATE_USERS, CREATE_VOTES,
 };
-use review_policy::{Fault, Word};
+use office_words::{Fault, Word};
 use sqlite::types::ValueRef;
 use sqlite::{Alter, Connection, Error, params};
 use sqlite_schema::schema::Schema;

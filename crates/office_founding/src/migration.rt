@@ -3,7 +3,7 @@
 ghost use Rattle.std.specs.Prelude.{◌≡◌, ◌≢◌, false, Err, IfErr, IsTrue, OnOk, []};
 ghost use Rattle.sqlite.specs.Held.{state};
 ghost use Rattle.sqlite.specs.State.{HasCleanDisk};
-ghost use Rattle.office_tables.specs.Tables.{Tables};
+ghost use Rattle.office_words.specs.Tables.{Tables};
 ghost use Rattle.office_store.specs.Connections.{MeetsOnErr};
 ghost use Rattle.office_store.specs.Shown.{IsIdle, Shows, ShowsIfOpen};
 ghost use Rattle.office_founding.specs.Form.{has_old_tables};
@@ -16,7 +16,7 @@ use crate::fault::MigrationFault;
 use crate::form::{has_old_tables, office_number};
 use office_rows::{Statement, fault_of_error, run_all};
 use office_store::schema::{CREATE_BY_AUTHOR, CREATE_BY_STATE, CREATE_HOLDS};
-use review_policy::Fault;
+use office_words::Fault;
 use sqlite::{Alter, Connection, Error};
 
 pub(crate) const RENUMBER: &str = "UPDATE office SET schema = 2";

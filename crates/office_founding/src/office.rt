@@ -10,7 +10,7 @@ ghost use Rattle.office_founding.specs.Form.{listed_row, AreCaps, IsRowListed};
 use crate::caps::caps_at;
 use cap_sets::Caps;
 use office_rows::first_row;
-use review_policy::Fault;
+use office_words::Fault;
 use sqlite::{Alter, Connection, Row};
 
 pub(crate) const LISTED: &str = "SELECT listed FROM office";

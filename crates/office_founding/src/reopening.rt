@@ -11,7 +11,7 @@ ghost use Rattle.sqlite.specs.Files.{file_state, image_of, IsOpened};
 ghost use Rattle.sqlite.specs.Held.{state};
 ghost use Rattle.sqlite.specs.Start.{FindsIn};
 ghost use Rattle.sqlite.specs.State.{Opens, IsLive};
-ghost use Rattle.office_tables.specs.Tables.{Tables};
+ghost use Rattle.office_words.specs.Tables.{Tables};
 ghost use Rattle.office_store.specs.Shown.{Shows, AreOffice};
 ghost use Rattle.office_founding.specs.Migration.{AreOldOffice, ShowsOld};
 ghost use Rattle.office_founding.specs.Reopening.{HoldsOffice, HoldsOldOffice};

@@ -2,8 +2,8 @@
 use Rattle.std.proofs.Common.{◌≡◌, ◌∙◌, ℕ, List, Option, Some, Ok, sym, ap}
 use Rattle.std.specs.Prelude.{option_map}
 use Rattle.sqlite.specs.State.{State}
-use Rattle.office_tables.specs.declared.row.RevisionRow.{RevisionRow}
-use Rattle.office_tables.specs.Tables.{Tables}
+use Rattle.office_words.specs.declared.row.RevisionRow.{RevisionRow}
+use Rattle.office_words.specs.Tables.{Tables}
 use Rattle.office_store.specs.declared.baselines.Adopted.{Adopted}
 use Rattle.office_store.specs.Adopted.{baseline_of}
 use Rattle.office_store.specs.Calls.{IsRead}

@@ -6,7 +6,7 @@ use Rattle.review_policy.specs.declared.ask.Ask.{Ask}
 use Rattle.review_policy.specs.declared.answer.Reply.{Reply}
 use Rattle.review_policy.specs.declared.denial.Denial.{Denial}
 use Rattle.review_policy.specs.declared.denial.Rule.{Rule}
-use Rattle.office_tables.specs.declared.row.UserRow.{UserRow}
+use Rattle.office_words.specs.declared.row.UserRow.{UserRow}
 use Rattle.office_store.specs.Shown.{IsIdle}
 use Rattle.office_store.specs.Calls.{IsRead}
 use Rattle.office_policy.specs.History.{History}

@@ -5,12 +5,12 @@ use Rattle.review_policy.specs.declared.ask.Ask.TheVariants as ask
 use Rattle.review_policy.specs.declared.answer.Reply.TheVariants.{Nothing}
 use Rattle.review_policy.specs.declared.denial.Denial.{Denial}
 use Rattle.review_policy.specs.declared.facts.TheConstants.EnrolFacts.{PASSING}
-use Rattle.review_policy.specs.declared.role.Role.TheVariants.{Registrar}
+use Rattle.office_words.specs.declared.role.Role.TheVariants.{Registrar}
 use Rattle.review_policy.specs.Rules.{enrol_rules, known_denial}
-use Rattle.office_tables.specs.declared.row.UserRow.{UserRow}
-use Rattle.office_tables.specs.Tables.{Tables}
-use Rattle.office_tables.specs.Reads.{IsUserShowing}
-use Rattle.office_tables.specs.Lists.{holds_role}
+use Rattle.office_words.specs.declared.row.UserRow.{UserRow}
+use Rattle.office_words.specs.Tables.{Tables}
+use Rattle.office_words.specs.Reads.{IsUserShowing}
+use Rattle.office_words.specs.Lists.{holds_role}
 use Rattle.office_policy.specs.History.{enrolled, History}
 use Rattle.office_policy.specs.Users.{user_of, user_showing, is_named}
 use Rattle.office_policy.specs.Facts.{enrol_facts, is_elsewhere, is_another}

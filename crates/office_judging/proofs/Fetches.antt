@@ -4,16 +4,16 @@ use Rattle.std.specs.Prelude.{is_none, is_some, option_map}
 use Rattle.review_policy.specs.declared.act.ProfileView.TheVariants.{Fetch}
 use Rattle.review_policy.specs.declared.act.ProfileView.TheVariants as views
 use Rattle.review_policy.specs.declared.ask.Ask.TheVariants as ask
-use Rattle.review_policy.specs.declared.ask.ProfileName.{ProfileName}
+use Rattle.office_words.specs.declared.name.ProfileName.{ProfileName}
 use Rattle.review_policy.specs.declared.answer.Reply.TheVariants.{Fetched, IssuedNow}
 use Rattle.review_policy.specs.declared.denial.Denial.{Denial}
 use Rattle.review_policy.specs.declared.facts.FetchFacts.{FetchFacts}
 use Rattle.review_policy.specs.declared.facts.TheConstants.FetchFacts.{PASSING}
-use Rattle.review_policy.specs.declared.role.Role.TheVariants.{Machine}
+use Rattle.office_words.specs.declared.role.Role.TheVariants.{Machine}
 use Rattle.review_policy.specs.Rules.{fetch_rules, behind_caller, known_denial}
-use Rattle.office_tables.specs.declared.row.UserRow.{UserRow}
-use Rattle.office_tables.specs.declared.row.RevisionRow.{RevisionRow}
-use Rattle.office_tables.specs.Lists.{holds_role}
+use Rattle.office_words.specs.declared.row.UserRow.{UserRow}
+use Rattle.office_words.specs.declared.row.RevisionRow.{RevisionRow}
+use Rattle.office_words.specs.Lists.{holds_role}
 use Rattle.office_store.specs.declared.briefs.Brief.{Brief}
 use Rattle.office_store.specs.Briefs.{brief_of}
 use Rattle.office_policy.specs.History.{History}

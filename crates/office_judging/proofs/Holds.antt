@@ -5,14 +5,14 @@ use Rattle.review_policy.specs.Acts.{holds}
 use Rattle.review_policy.specs.declared.act.ProfileAct.{ProfileAct}
 use Rattle.review_policy.specs.declared.act.ProfileAct.TheVariants.{Hold, Release}
 use Rattle.review_policy.specs.declared.ask.Ask.TheVariants as ask
-use Rattle.review_policy.specs.declared.ask.ProfileName.{ProfileName}
+use Rattle.office_words.specs.declared.name.ProfileName.{ProfileName}
 use Rattle.review_policy.specs.declared.denial.Denial.{Denial}
 use Rattle.review_policy.specs.declared.facts.TheConstants.HoldFacts.{PASSING}
-use Rattle.review_policy.specs.declared.role.Role.TheVariants.{Security}
-use Rattle.review_policy.specs.Role.{has_role}
+use Rattle.office_words.specs.declared.role.Role.TheVariants.{Security}
+use Rattle.office_words.specs.Role.{has_role}
 use Rattle.review_policy.specs.Rules.{hold_rules, behind_caller, known_denial}
-use Rattle.office_tables.specs.declared.row.UserRow.{UserRow}
-use Rattle.office_tables.specs.Lists.{holds_role}
+use Rattle.office_words.specs.declared.row.UserRow.{UserRow}
+use Rattle.office_words.specs.Lists.{holds_role}
 use Rattle.office_policy.specs.Facts.{hold_facts}
 use Rattle.office_judging.specs.Looked.{hold_at}
 use Rattle.office_judging.proofs.Deciding.{Kind}

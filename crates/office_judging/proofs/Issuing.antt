@@ -3,20 +3,20 @@ use Rattle.std.proofs.Common.{arith, ◌≡◌, ◌∙◌, ◌↔◌, ℕ, List,
 use Rattle.std.specs.Prelude.{nat_lt, ◌==◌}
 use Rattle.review_policy.specs.declared.act.RevisionAct.TheVariants.{Issue}
 use Rattle.review_policy.specs.declared.ask.Ask.TheVariants as ask
-use Rattle.review_policy.specs.declared.ask.ProfileName.{ProfileName}
+use Rattle.office_words.specs.declared.name.ProfileName.{ProfileName}
 use Rattle.review_policy.specs.declared.answer.Reply.TheVariants as reply
 use Rattle.review_policy.specs.declared.denial.Denial.{Denial}
 use Rattle.review_policy.specs.declared.denial.Need.{Need}
 use Rattle.review_policy.specs.declared.denial.Need.TheVariants.{One, TwoWithSecurity}
 use Rattle.review_policy.specs.declared.facts.IssueFacts.{IssueFacts}
 use Rattle.review_policy.specs.declared.facts.TheConstants.IssueFacts.{PASSING}
-use Rattle.review_policy.specs.declared.role.Role.TheVariants.{Issuer}
+use Rattle.office_words.specs.declared.role.Role.TheVariants.{Issuer}
 use Rattle.review_policy.specs.Rules.{first_from, issue_rules, behind_caller, known_denial}
-use Rattle.office_tables.specs.declared.row.UserRow.{UserRow}
-use Rattle.office_tables.specs.declared.row.RevisionRow.{RevisionRow}
-use Rattle.office_tables.specs.declared.listed.Tally.{Tally}
-use Rattle.office_tables.specs.Tables.{Tables}
-use Rattle.office_tables.specs.Lists.{IsAuthor, IsTally, holds_role}
+use Rattle.office_words.specs.declared.row.UserRow.{UserRow}
+use Rattle.office_words.specs.declared.row.RevisionRow.{RevisionRow}
+use Rattle.office_words.specs.declared.listed.Tally.{Tally}
+use Rattle.office_words.specs.Tables.{Tables}
+use Rattle.office_words.specs.Lists.{IsAuthor, IsTally, holds_role}
 use Rattle.office_policy.specs.History.{History, issued}
 use Rattle.office_policy.specs.Revisions.{revision_of, is_author}
 use Rattle.office_policy.specs.Votes.{tally_at}

@@ -2,19 +2,19 @@
 use Rattle.std.proofs.Common.{◌≡◌, ◌∙◌, ◌↔◌, ◌==◌, ℕ, suc, List, Bool, true, false, not, Option, Some, None, Ok, sym, map, take, ap, subst}
 use Rattle.std.specs.Prelude.{option_map, unwrap_or}
 use Rattle.sqlite.specs.State.{State}
-use Rattle.review_policy.specs.declared.ask.ProfileName.{ProfileName}
-use Rattle.review_policy.specs.declared.answer.ProfileRevision.{ProfileRevision}
-use Rattle.review_policy.specs.Rules.{max_revisions}
-use Rattle.office_tables.specs.declared.row.RevisionRow.{RevisionRow}
-use Rattle.office_tables.specs.Tables.{Tables}
-use Rattle.office_tables.specs.Lists.{IsAuthor, AreBelow, AreNewest, told_revision}
+use Rattle.office_words.specs.declared.name.ProfileName.{ProfileName}
+use Rattle.office_words.specs.declared.listed.ProfileRevision.{ProfileRevision}
+use Rattle.office_words.specs.Limits.{max_revisions}
+use Rattle.office_words.specs.declared.row.RevisionRow.{RevisionRow}
+use Rattle.office_words.specs.Tables.{Tables}
+use Rattle.office_words.specs.Lists.{IsAuthor, AreBelow, AreNewest, told_revision}
 use Rattle.office_store.specs.Calls.{IsRead}
 use Rattle.office_store.specs.Briefs.{brief_of, IsBriefOf}
 use Rattle.office_store.specs.Lists.{most_read}
 use Rattle.office_store.specs.Summaries.{summary_of}
 use Rattle.office_store.specs.declared.briefs.Brief.{Brief}
 use Rattle.office_store.specs.declared.summaries.Summary.{Summary}
-use Rattle.office_tables.specs.Reads.{HasRevision, IsIssued}
+use Rattle.office_words.specs.Reads.{HasRevision, IsIssued}
 use Rattle.office_policy.specs.Revisions.{revision_of, revision_count, issued_revision}
 use Rattle.office_policy.specs.LooksBack.{LooksBack}
 use Rattle.office_policy.specs.History.{History}

@@ -5,15 +5,16 @@ use Rattle.std.proofs.lemmas.Bool.Decides.{nat_tests}
 use Rattle.std.proofs.lemmas.List.{length-map, length-take, take-map, take-take}
 use Rattle.review_policy.specs.declared.act.RevisionView.TheVariants.{Sheet, Show}
 use Rattle.review_policy.specs.declared.ask.Ask.TheVariants as ask
-use Rattle.review_policy.specs.declared.ask.ProfileName.{ProfileName}
-use Rattle.review_policy.specs.declared.answer.ProfileRevision.{ProfileRevision}
+use Rattle.office_words.specs.declared.name.ProfileName.{ProfileName}
+use Rattle.office_words.specs.declared.listed.ProfileRevision.{ProfileRevision}
 use Rattle.review_policy.specs.declared.answer.Reply.TheVariants.{Revisions}
 use Rattle.review_policy.specs.declared.denial.Denial.{Denial}
-use Rattle.review_policy.specs.declared.role.Role.TheVariants.{Author}
-use Rattle.review_policy.specs.Rules.{read_rules, revisions_rules, max_listed, behind_caller, known_denial}
-use Rattle.office_tables.specs.declared.row.UserRow.{UserRow}
-use Rattle.office_tables.specs.declared.row.RevisionRow.{RevisionRow}
-use Rattle.office_tables.specs.Lists.{holds_role, told_revision}
+use Rattle.office_words.specs.declared.role.Role.TheVariants.{Author}
+use Rattle.office_words.specs.Limits.{max_listed}
+use Rattle.review_policy.specs.Rules.{read_rules, revisions_rules, behind_caller, known_denial}
+use Rattle.office_words.specs.declared.row.UserRow.{UserRow}
+use Rattle.office_words.specs.declared.row.RevisionRow.{RevisionRow}
+use Rattle.office_words.specs.Lists.{holds_role, told_revision}
 use Rattle.office_store.specs.Lists.{most_read}
 use Rattle.office_policy.specs.Users.{is_of_team}
 use Rattle.office_policy.specs.Revisions.{revision_of}

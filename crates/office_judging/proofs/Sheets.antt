@@ -3,14 +3,14 @@ use Rattle.std.proofs.Common.{◌≡◌, ◌∙◌, ℕ, List, Option, Some, Non
 use Rattle.std.specs.Prelude.{option_map}
 use Rattle.review_policy.specs.declared.act.RevisionView.TheVariants.{Sheet}
 use Rattle.review_policy.specs.declared.ask.Ask.TheVariants as ask
-use Rattle.review_policy.specs.declared.ask.ProfileName.{ProfileName}
+use Rattle.office_words.specs.declared.name.ProfileName.{ProfileName}
 use Rattle.review_policy.specs.declared.answer.Reply.TheVariants as reply
-use Rattle.review_policy.specs.declared.revision.VoteRow.{VoteRow}
+use Rattle.office_words.specs.declared.revision.VoteRow.{VoteRow}
 use Rattle.review_sheet.specs.Sheet.{sheet_text}
-use Rattle.office_tables.specs.declared.row.UserRow.{UserRow}
-use Rattle.office_tables.specs.declared.row.RevisionRow.{RevisionRow}
-use Rattle.office_tables.specs.Tables.{Tables}
-use Rattle.office_tables.specs.Lists.{AreStanding}
+use Rattle.office_words.specs.declared.row.UserRow.{UserRow}
+use Rattle.office_words.specs.declared.row.RevisionRow.{RevisionRow}
+use Rattle.office_words.specs.Tables.{Tables}
+use Rattle.office_words.specs.Lists.{AreStanding}
 use Rattle.office_policy.specs.History.{History}
 use Rattle.office_policy.specs.LooksBack.{LooksBack}
 use Rattle.office_policy.specs.Revisions.{revision_of}

@@ -1,17 +1,17 @@
 -- How a profile stands, by what a few reads find.
 use Rattle.std.proofs.Common.{◌≡◌, ◌≢◌, ◌∙◌, ◌≤◌, ℕ, zero, suc, List, Option, Some, None, Result, Ok, Err, Bool, true, false, cond, true≢false, refl, sym, ap, subst, arith}
 use Rattle.std.specs.Prelude.{is_some, option_map}
-use Rattle.review_policy.specs.declared.ask.ProfileName.{ProfileName}
+use Rattle.office_words.specs.declared.name.ProfileName.{ProfileName}
 use Rattle.review_policy.specs.declared.answer.ListedProfile.{ListedProfile}
-use Rattle.review_policy.specs.declared.revision.State.{State}
-use Rattle.review_policy.specs.declared.revision.State.TheVariants.{Open, Issued}
+use Rattle.office_words.specs.declared.revision.State.{State}
+use Rattle.office_words.specs.declared.revision.State.TheVariants.{Open, Issued}
 use Rattle.review_policy.specs.Rules.{is_issued}
 use Rattle.sqlite.specs.State.{State as State_}
-use Rattle.review_policy.specs.declared.fault.Fault.{Fault}
-use Rattle.office_tables.specs.declared.listed.ListedRevision.{ListedRevision}
-use Rattle.office_tables.specs.Tables.{Tables}
-use Rattle.office_tables.specs.Lists.{profile_of, IsListed}
-use Rattle.office_tables.specs.Reads.{IsLast, IsIssued}
+use Rattle.office_words.specs.declared.fault.Fault.{Fault}
+use Rattle.office_words.specs.declared.listed.ListedRevision.{ListedRevision}
+use Rattle.office_words.specs.Tables.{Tables}
+use Rattle.office_words.specs.Lists.{profile_of, IsListed}
+use Rattle.office_words.specs.Reads.{IsLast, IsIssued}
 use Rattle.office_store.specs.Calls.{IsRead}
 use Rattle.office_store.specs.Lists.{IsNumberOf}
 use Rattle.office_store.specs.Numbered.{IsNumberedOf}

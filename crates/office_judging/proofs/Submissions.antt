@@ -2,7 +2,7 @@
 use Rattle.std.proofs.Common.{◌≡◌, ◌∙◌, ℕ, suc, List, Bool, not, Option, Some, None, Err, Ok, refl, sym, ap, Vec, Global}
 use Rattle.std.specs.Prelude.{Result, ⊤}
 use Rattle.sqlite.specs.State.{State}
-use Rattle.review_policy.specs.declared.ask.ProfileName.{ProfileName}
+use Rattle.office_words.specs.declared.name.ProfileName.{ProfileName}
 use Rattle.review_policy.specs.declared.ask.Ask.TheVariants as ask
 use Rattle.review_policy.specs.declared.answer.Reply.TheVariants.{Submitted}
 use Rattle.review_policy.specs.declared.denial.Denial.{Denial}
@@ -10,17 +10,17 @@ use Rattle.review_policy.specs.declared.denial.Rule.{Rule}
 use Rattle.review_policy.specs.declared.denial.Rule.TheVariants.{Document}
 use Rattle.review_policy.specs.declared.facts.SubmitFacts.{SubmitFacts}
 use Rattle.review_policy.specs.declared.facts.TheConstants.SubmitFacts.{PASSING}
-use Rattle.review_policy.specs.declared.role.Role.TheVariants.{Author}
+use Rattle.office_words.specs.declared.role.Role.TheVariants.{Author}
 use Rattle.review_policy.specs.Rules.{submit_rules, known_denial}
 use Rattle.profile_text.specs.declared.profile.Profile.{Profile}
 use Rattle.profile_text.specs.declared.fault.DocFault.{DocFault}
 use Rattle.profile_text.specs.Digest.{digest_of}
 use Rattle.profile_text.specs.Reading.{reading_of}
 use Rattle.profile_text.specs.Text.{text_of}
-use Rattle.office_tables.specs.declared.row.UserRow.{UserRow}
-use Rattle.office_tables.specs.declared.row.RevisionRow.{RevisionRow}
-use Rattle.office_tables.specs.Lists.{holds_role}
-use Rattle.office_tables.specs.Reads.{IsLast, submitted as new_row}
+use Rattle.office_words.specs.declared.row.UserRow.{UserRow}
+use Rattle.office_words.specs.declared.row.RevisionRow.{RevisionRow}
+use Rattle.office_words.specs.Lists.{holds_role}
+use Rattle.office_words.specs.Reads.{IsLast, submitted as new_row}
 use Rattle.office_store.specs.Shown.{IsIdle}
 use Rattle.office_policy.specs.History.{History, submitted}
 use Rattle.office_policy.specs.Users.{is_of_team}

@@ -1,7 +1,7 @@
 -- A read for which nothing has to be read.
 use Rattle.std.proofs.Common.{Ok, IsTrue, refl}
 use Rattle.sqlite.specs.State.{State, HasCleanDisk}
-use Rattle.office_tables.specs.Tables.{Tables}
+use Rattle.office_words.specs.Tables.{Tables}
 use Rattle.office_store.specs.Shown.{IsIdle}
 use Rattle.office_store.specs.Calls.{IsRead}
 use Rattle.office_store.proofs.Calls.{Settles, leaves_only}

@@ -9,8 +9,8 @@ use Rattle.review_policy.specs.declared.answer.Answer.TheVariants.{Done, Denied,
 use Rattle.review_policy.specs.declared.answer.Reply.{Reply}
 use Rattle.review_policy.specs.declared.denial.Denial.{Denial}
 use Rattle.review_policy.specs.declared.denial.Rule.TheVariants.{CallerUnknown}
-use Rattle.office_tables.specs.declared.row.UserRow.{UserRow}
-use Rattle.office_tables.specs.Reads.{IsUserShowing}
+use Rattle.office_words.specs.declared.row.UserRow.{UserRow}
+use Rattle.office_words.specs.Reads.{IsUserShowing}
 use Rattle.profile_text.specs.Digest.{digest_of}
 use Rattle.office_policy.specs.declared.judge.Allowed.{Allowed}
 use Rattle.office_policy.specs.declared.judge.Judgement.{Judgement}

@@ -2,10 +2,10 @@
 use Rattle.std.proofs.Common.{◌≡◌, ◌∙◌, ◌⊎◌, inl, inr, ℕ, List, [], ◌∷◌, ◌++◌, map, Option, Some, None, refl, sym, ap, subst, arith, append_assoc, append-nil}
 use Rattle.std.proofs.lemmas.List.{map-append}
 use Rattle.review_policy.specs.declared.answer.ListedProfile.{ListedProfile}
-use Rattle.office_tables.specs.declared.listed.ListedRevision.{ListedRevision}
-use Rattle.office_tables.specs.Tables.{Tables}
-use Rattle.office_tables.specs.Lists.{profile_of, IsListed}
-use Rattle.office_tables.proofs.Members.{Has}
+use Rattle.office_words.specs.declared.listed.ListedRevision.{ListedRevision}
+use Rattle.office_words.specs.Tables.{Tables}
+use Rattle.office_words.specs.Lists.{profile_of, IsListed}
+use Rattle.office_words.proofs.Members.{Has}
 use Rattle.office_store.specs.Lists.{IsFirstListed, ComesAfter, IsNextListed}
 use Rattle.office_policy.specs.History.{History}
 use Rattle.office_policy.specs.Lawful.{IsLawfulHistory}

@@ -3,15 +3,15 @@ use Rattle.std.proofs.Common.{◌≡◌, ℕ, Bool, true, false, not, ◌||◌, 
 use Rattle.std.specs.Prelude.{option_map}
 use Rattle.review_policy.specs.declared.act.RevisionAct.TheVariants.{Withdraw}
 use Rattle.review_policy.specs.declared.ask.Ask.TheVariants as ask
-use Rattle.review_policy.specs.declared.ask.ProfileName.{ProfileName}
+use Rattle.office_words.specs.declared.name.ProfileName.{ProfileName}
 use Rattle.review_policy.specs.declared.denial.Denial.{Denial}
 use Rattle.review_policy.specs.declared.facts.TheConstants.WithdrawFacts.{PASSING}
-use Rattle.review_policy.specs.declared.revision.State.{State}
-use Rattle.review_policy.specs.declared.role.Role.TheVariants.{Author, Security}
+use Rattle.office_words.specs.declared.revision.State.{State}
+use Rattle.office_words.specs.declared.role.Role.TheVariants.{Author, Security}
 use Rattle.review_policy.specs.Rules.{withdraw_rules, behind_caller, known_denial}
-use Rattle.office_tables.specs.declared.row.UserRow.{UserRow}
-use Rattle.office_tables.specs.declared.row.RevisionRow.{RevisionRow}
-use Rattle.office_tables.specs.Lists.{holds_role}
+use Rattle.office_words.specs.declared.row.UserRow.{UserRow}
+use Rattle.office_words.specs.declared.row.RevisionRow.{RevisionRow}
+use Rattle.office_words.specs.Lists.{holds_role}
 use Rattle.office_policy.specs.Users.{is_of_team}
 use Rattle.office_policy.specs.Revisions.{revision_of, state_in}
 use Rattle.office_policy.specs.Facts.{withdraw_facts}

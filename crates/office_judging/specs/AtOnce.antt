@@ -1,6 +1,6 @@
 -- What is refused whatever has happened.
 use Rattle.std.specs.Prelude.{◌≡◌}
-use Rattle.review_policy.specs.declared.fault.Fault.TheVariants.{NoMemory}
+use Rattle.office_words.specs.declared.fault.Fault.TheVariants.{NoMemory}
 use Rattle.office_policy.specs.History.{History}
 use Rattle.office_policy.specs.Verdict.{Verdict, denied}
 use Rattle.office_judging.specs.declared.refusal.Refusal.{Refusal}

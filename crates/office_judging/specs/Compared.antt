@@ -1,10 +1,10 @@
 -- What the revisions of a team are compared with, and their review sheets.
 use Rattle.std.specs.Prelude.{ℕ, List, option_map}
-use Rattle.review_policy.specs.declared.ask.ProfileName.{ProfileName}
+use Rattle.office_words.specs.declared.name.ProfileName.{ProfileName}
 use Rattle.review_policy.specs.declared.denial.Need.{Need}
-use Rattle.review_policy.specs.declared.revision.VoteRow.{VoteRow}
+use Rattle.office_words.specs.declared.revision.VoteRow.{VoteRow}
 use Rattle.review_sheet.specs.Facts.{SheetValue}
-use Rattle.office_tables.specs.declared.row.RevisionRow.{RevisionRow}
+use Rattle.office_words.specs.declared.row.RevisionRow.{RevisionRow}
 use Rattle.office_policy.specs.History.{History}
 use Rattle.office_policy.specs.Baseline.{listed_of, adopted_revision, document_or_closed}
 use Rattle.office_policy.specs.Documents.{document_of}

@@ -2,8 +2,8 @@
 use Rattle.std.specs.Prelude.{ℕ, List, Bool, not, nat_lt, ◌&&◌, ◌==◌, if◌then◌else◌}
 use Rattle.review_policy.specs.declared.denial.Need.{Need}
 use Rattle.review_policy.specs.declared.denial.Need.TheVariants.{One}
-use Rattle.review_policy.specs.declared.ask.ProfileName.{ProfileName}
-use Rattle.office_tables.specs.declared.listed.Tally.{Tally}
+use Rattle.office_words.specs.declared.name.ProfileName.{ProfileName}
+use Rattle.office_words.specs.declared.listed.Tally.{Tally}
 use Rattle.office_policy.specs.History.{History}
 use Rattle.office_policy.specs.Revisions.{revision_of, is_author}
 use Rattle.office_policy.specs.Votes.{tally_at}

@@ -4,15 +4,15 @@ use Rattle.std.specs.Prelude.{IsTrue}
 use Rattle.sqlite.specs.State.{State, HasCleanDisk, Survives}
 use Rattle.profile_text.specs.Digest.{digest_of}
 use Rattle.review_policy.specs.declared.ask.Ask.{Ask}
-use Rattle.review_policy.specs.declared.ask.ProfileName.{ProfileName}
+use Rattle.office_words.specs.declared.name.ProfileName.{ProfileName}
 use Rattle.review_policy.specs.declared.ask.Request.{Request}
 use Rattle.review_policy.specs.declared.answer.Answer.TheVariants.{Done}
 use Rattle.review_policy.specs.declared.answer.Reply.{Reply}
 use Rattle.review_policy.specs.declared.answer.Reply.TheVariants.{Submitted}
-use Rattle.review_policy.specs.declared.fault.Fault.TheVariants.{NotAnOffice}
-use Rattle.office_tables.specs.declared.row.RevisionRow.{RevisionRow}
-use Rattle.office_tables.specs.declared.row.UserRow.{UserRow}
-use Rattle.office_tables.specs.Tables.{Tables}
+use Rattle.office_words.specs.declared.fault.Fault.TheVariants.{NotAnOffice}
+use Rattle.office_words.specs.declared.row.RevisionRow.{RevisionRow}
+use Rattle.office_words.specs.declared.row.UserRow.{UserRow}
+use Rattle.office_words.specs.Tables.{Tables}
 use Rattle.office_rows.specs.Causes.{HasFailed}
 use Rattle.office_rows.specs.Queries.{IsAsItWas}
 use Rattle.office_store.specs.Shown.{IsIdle, Shows, ShowsIfOpen, LeavesNoMore, LeavesOnly}

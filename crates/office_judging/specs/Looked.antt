@@ -1,9 +1,9 @@
 -- What the rules of a request ask of the tables, by looking back.
 use Rattle.std.specs.Prelude.{◌==◌, ℕ, List, Bool, Option, option_map, map, take}
-use Rattle.review_policy.specs.declared.answer.ProfileRevision.{ProfileRevision}
-use Rattle.review_policy.specs.declared.ask.ProfileName.{ProfileName}
-use Rattle.office_tables.specs.declared.row.RevisionRow.{RevisionRow}
-use Rattle.office_tables.specs.Lists.{told_revision}
+use Rattle.office_words.specs.declared.listed.ProfileRevision.{ProfileRevision}
+use Rattle.office_words.specs.declared.name.ProfileName.{ProfileName}
+use Rattle.office_words.specs.declared.row.RevisionRow.{RevisionRow}
+use Rattle.office_words.specs.Lists.{told_revision}
 use Rattle.office_store.specs.declared.briefs.Brief.{Brief}
 use Rattle.office_store.specs.declared.summaries.Summary.{Summary}
 use Rattle.office_store.specs.Briefs.{brief_of}

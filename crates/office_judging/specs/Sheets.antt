@@ -1,8 +1,8 @@
 -- The review sheets of revisions, by looking back.
 use Rattle.std.specs.Prelude.{ℕ, List, Option, option_map}
-use Rattle.review_policy.specs.declared.ask.ProfileName.{ProfileName}
+use Rattle.office_words.specs.declared.name.ProfileName.{ProfileName}
 use Rattle.review_sheet.specs.Sheet.{sheet_text}
-use Rattle.office_tables.specs.declared.row.RevisionRow.{RevisionRow}
+use Rattle.office_words.specs.declared.row.RevisionRow.{RevisionRow}
 use Rattle.office_policy.specs.History.{History}
 use Rattle.office_policy.specs.Revisions.{revision_of}
 use Rattle.office_policy.specs.Sheets.{sheet_of}

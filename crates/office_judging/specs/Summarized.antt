@@ -1,6 +1,6 @@
 -- Revisions without their texts, as those rules ask of them that look at states and digests alone.
 use Rattle.std.specs.Prelude.{[], Option, option_map}
-use Rattle.office_tables.specs.declared.row.RevisionRow.{RevisionRow}
+use Rattle.office_words.specs.declared.row.RevisionRow.{RevisionRow}
 use Rattle.office_store.specs.declared.summaries.Summary.{Summary}
 
 -- a revision of this state and digest: those rules ask no more of one

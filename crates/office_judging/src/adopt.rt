@@ -6,7 +6,7 @@ ghost use Rattle.review_policy.specs.declared.act.RevisionAct.TheVariants.{Adopt
 ghost use Rattle.review_policy.specs.declared.ask.Ask.TheVariants as ask;
 ghost use Rattle.review_policy.specs.declared.facts.TheConstants.AdoptFacts.{PASSING};
 ghost use Rattle.office_store.specs.Shown.{IsIdle};
-ghost use Rattle.office_tables.specs.Lists.{holds_role};
+ghost use Rattle.office_words.specs.Lists.{holds_role};
 ghost use Rattle.office_policy.specs.Facts.{adopt_facts};
 ghost use Rattle.office_judging.specs.Judged.{IsAskedBy, JudgesChange};
 ghost use Rattle.office_judging.specs.Summarized.{as_asked};
@@ -15,10 +15,10 @@ use crate::refusal::Refusal;
 use crate::revisions::{authored, state_of};
 use office_policy::{Allowed, Change};
 use office_store::Summary;
-use office_tables::UserRow;
+use office_words::{ProfileName, Role, UserRow};
 use review_policy::decide::decide_adopt;
 use review_policy::facts::AdoptFacts;
-use review_policy::{ProfileName, Reply, RevisionAct, Role};
+use review_policy::{Reply, RevisionAct};
 use sqlite::{Alter, Connection};
 
 // What the rules ask of a caller.

@@ -13,9 +13,9 @@ use crate::need::{document, need_against};
 use cap_sets::Caps;
 use office_founding::listed;
 use office_store::{baseline, revision};
-use office_tables::RevisionRow;
+use office_words::{Fault, ProfileName, RevisionRow, State, Text, Word};
 use profile_text::Profile;
-use review_policy::{Fault, Need, ProfileName, State, Text, Word};
+use review_policy::Need;
 use sqlite::{Alter, Connection};
 use std::alloc::{AllocError, Global};
 

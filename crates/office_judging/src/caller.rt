@@ -4,8 +4,8 @@ ghost use Rattle.std.specs.Prelude.{◌≡◌, Some, ◌||◌};
 ghost use Rattle.review_policy.specs.declared.answer.Reply.TheVariants.{Me};
 ghost use Rattle.office_policy.specs.Facts.{sees_every_team};
 
-use office_tables::UserRow;
-use review_policy::{Reply, Role};
+use office_words::{Role, UserRow};
+use review_policy::Reply;
 
 // Whether the user holds a role of those who see the revisions of every team.
 pub(crate) fn sees_every_team(user: &UserRow) -> bool

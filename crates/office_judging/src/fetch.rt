@@ -5,7 +5,7 @@ ghost use Rattle.sqlite.specs.Held.{state};
 ghost use Rattle.review_policy.specs.declared.act.ProfileView.TheVariants.{Fetch};
 ghost use Rattle.review_policy.specs.declared.ask.Ask.TheVariants as ask;
 ghost use Rattle.review_policy.specs.declared.facts.TheConstants.FetchFacts.{PASSING};
-ghost use Rattle.office_tables.specs.Lists.{holds_role};
+ghost use Rattle.office_words.specs.Lists.{holds_role};
 ghost use Rattle.office_store.specs.Calls.{IsRead};
 ghost use Rattle.office_store.specs.Shown.{IsIdle};
 ghost use Rattle.office_policy.specs.Users.{is_of_team};
@@ -16,10 +16,10 @@ ghost use Rattle.office_judging.specs.Judged.{JudgesRead};
 
 use crate::refusal::Refusal;
 use office_store::{is_held, issued};
-use office_tables::{RevisionRow, UserRow};
+use office_words::{Fault, ProfileName, RevisionRow, Role, UserRow, Word};
+use review_policy::Reply;
 use review_policy::decide::decide_fetch;
 use review_policy::facts::FetchFacts;
-use review_policy::{Fault, ProfileName, Reply, Role, Word};
 use sqlite::{Alter, Connection};
 use std::alloc::Global;
 

@@ -12,10 +12,10 @@ ghost use Rattle.office_judging.specs.Judged.{IsAskedBy, JudgesChange};
 use crate::refusal::Refusal;
 use office_policy::{Allowed, Change};
 use office_store::{has_revision, is_held};
-use office_tables::UserRow;
+use office_words::{Fault, ProfileName, Role, UserRow};
 use review_policy::decide::decide_hold;
 use review_policy::facts::HoldFacts;
-use review_policy::{Fault, ProfileAct, ProfileName, Reply, Role};
+use review_policy::{ProfileAct, Reply};
 use sqlite::{Alter, Connection};
 
 // Whether a profile has no revision, and whether it is held.

@@ -7,7 +7,7 @@ ghost use Rattle.review_policy.specs.declared.act.RevisionAct.TheVariants.{Issue
 ghost use Rattle.review_policy.specs.declared.ask.Ask.TheVariants as ask;
 ghost use Rattle.review_policy.specs.declared.denial.Need.TheVariants as needs;
 ghost use Rattle.review_policy.specs.declared.facts.TheConstants.IssueFacts.{PASSING};
-ghost use Rattle.office_tables.specs.Lists.{holds_role};
+ghost use Rattle.office_words.specs.Lists.{holds_role};
 ghost use Rattle.office_store.specs.Shown.{IsIdle};
 ghost use Rattle.office_store.specs.Calls.{IsRead};
 ghost use Rattle.office_policy.specs.Facts.{issue_facts};
@@ -22,10 +22,10 @@ use crate::refusal::Refusal;
 use crate::revisions::state_in;
 use office_policy::{Allowed, Change};
 use office_store::{is_author, is_held, revision, tally};
-use office_tables::{RevisionRow, Tally, UserRow};
+use office_words::{Fault, ProfileName, RevisionRow, Role, Tally, Text, UserRow, Word};
 use review_policy::decide::decide_issue;
 use review_policy::facts::IssueFacts;
-use review_policy::{Fault, Need, ProfileName, Reply, RevisionAct, Role, Text, Word};
+use review_policy::{Need, Reply, RevisionAct};
 use sqlite::{Alter, Connection};
 use std::alloc::Global;
 

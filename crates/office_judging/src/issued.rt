@@ -14,10 +14,10 @@ ghost use Rattle.office_judging.specs.Judged.{JudgesRead};
 use crate::fetch::facts_of_caller;
 use crate::refusal::Refusal;
 use office_store::{Brief, is_held, issued_brief};
-use office_tables::UserRow;
+use office_words::{Fault, ProfileName, UserRow, Word};
+use review_policy::Reply;
 use review_policy::decide::decide_fetch;
 use review_policy::facts::FetchFacts;
-use review_policy::{Fault, ProfileName, Reply, Word};
 use sqlite::{Alter, Connection};
 
 // All that the rules ask, where a revision is issued or none is.

@@ -27,11 +27,10 @@ use crate::vote::judge_vote;
 use crate::withdraw::judge_withdrawal;
 use office_policy::{Allowed, Judgement};
 use office_store::{user_by_name, user_by_token};
-use office_tables::UserRow;
+use office_words::{ProfileName, UserRow, Word};
 use profile_text::digest;
 use review_policy::{
-    Answer, Ask, Denial, ProfileName, ProfileView, Reply, Request, RevisionAct, RevisionView, Rule,
-    Word,
+    Answer, Ask, Denial, ProfileView, Reply, Request, RevisionAct, RevisionView, Rule,
 };
 use sqlite::{Alter, Connection};
 use std::alloc::Global;

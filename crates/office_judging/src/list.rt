@@ -9,9 +9,9 @@ ghost use Rattle.office_judging.specs.Judged.{JudgesRead};
 use crate::profiles::profiles_of;
 use crate::reading::read_facts;
 use crate::refusal::Refusal;
-use office_tables::UserRow;
+use office_words::{UserRow, Word};
+use review_policy::Reply;
 use review_policy::decide::decide_read;
-use review_policy::{Reply, Word};
 use sqlite::{Alter, Connection};
 use std::alloc::Global;
 

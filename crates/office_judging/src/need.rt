@@ -5,8 +5,9 @@ ghost use Rattle.office_policy.specs.Documents.{document_of};
 ghost use Rattle.office_policy.specs.Need.{need_against};
 
 use cap_sets::Caps;
+use office_words::Text;
 use profile_text::{DocFault, Profile, read_stored};
-use review_policy::{Need, Text, need};
+use review_policy::{Need, need};
 use std::alloc::{AllocError, Global};
 use widening::findings;
 

@@ -2,7 +2,7 @@
 
 ghost use Rattle.std.specs.Prelude.{◌≡◌, Some, take, length, nat_lt};
 ghost use Rattle.sqlite.specs.Held.{state};
-ghost use Rattle.review_policy.specs.Rules.{max_listed};
+ghost use Rattle.office_words.specs.Limits.{max_listed};
 ghost use Rattle.review_policy.specs.declared.ask.Ask.TheVariants as ask;
 ghost use Rattle.review_policy.specs.declared.answer.Reply.TheVariants.{Revisions};
 ghost use Rattle.office_store.specs.Shown.{IsIdle};
@@ -12,12 +12,10 @@ ghost use Rattle.office_judging.specs.Judged.{JudgesRead};
 use crate::reading::read_facts;
 use crate::refusal::Refusal;
 use office_store::{has_revision, newest_below};
-use office_tables::UserRow;
+use office_words::{MAX_LISTED, MAX_REVISIONS, ProfileName, ProfileRevision, UserRow, Word};
 use review_policy::decide::decide_revisions;
 use review_policy::facts::RevisionsFacts;
-use review_policy::{
-    MAX_LISTED, MAX_REVISIONS, ProfileName, ProfileRevision, Reply, RevisionList, Word,
-};
+use review_policy::{Reply, RevisionList};
 use sqlite::{Alter, Connection};
 use std::alloc::Global;
 

@@ -3,8 +3,8 @@
 
 ghost use Rattle.std.specs.Prelude.{◌≡◌, ◌≤◌, ℕ, List, IfSome};
 ghost use Rattle.sqlite.specs.Held.{state};
-ghost use Rattle.review_policy.specs.declared.ask.ProfileName.{ProfileName as Name};
-ghost use Rattle.office_tables.specs.Lists.{IsListed, profile_of};
+ghost use Rattle.office_words.specs.declared.name.ProfileName.{ProfileName as Name};
+ghost use Rattle.office_words.specs.Lists.{IsListed, profile_of};
 ghost use Rattle.office_store.specs.Calls.{IsRead};
 ghost use Rattle.office_store.specs.Shown.{IsIdle};
 ghost use Rattle.office_policy.specs.History.{History};
@@ -16,8 +16,8 @@ ghost use Rattle.office_judging.specs.Listed.{IsOneOf, IsLastOf, StandsWhere, Is
 ghost use Rattle.office_judging.specs.Listed.{standing_of};
 
 use office_store::{first_listed, issued_number, last_numbered, next_listed};
-use office_tables::ListedRevision;
-use review_policy::{Fault, ListedProfile, Listing, ProfileName, State, Word};
+use office_words::{Fault, ListedRevision, ProfileName, State, Word};
+use review_policy::{ListedProfile, Listing};
 use sqlite::{Alter, Connection};
 use std::alloc::Global;
 

@@ -5,9 +5,8 @@ ghost use Rattle.std.specs.Prelude.{◌≡◌, Some};
 ghost use Rattle.office_policy.specs.Facts.{read_facts};
 
 use crate::caller::sees_every_team;
-use office_tables::UserRow;
+use office_words::{Role, UserRow, Word};
 use review_policy::facts::ReadFacts;
-use review_policy::{Role, Word};
 
 // What the rules ask of a caller, a team, and whether the revision isn't there.
 pub(crate) fn read_facts(caller: &UserRow, team: &Word, no_revision: bool) -> ReadFacts

@@ -2,11 +2,12 @@
 
 ghost use Rattle.std.specs.Prelude.{◌≡◌};
 
-use review_policy::{Denial, Fault, Text};
+use office_words::{Fault, Text};
+use review_policy::Denial;
 use std::alloc::AllocError;
 
 /// Why a request isn't carried out.
-#[derive(Debug, Drop)]
+#[derive(Drop)]
 pub enum Refusal {
     /// The first rule that refuses it; for a document that doesn't read, with its fault.
     Denied { denial: Denial, fault: Option<Text> },
@@ -41,7 +42,7 @@ impl From<Fault> for Refusal {
 
 impl From<AllocError> for Refusal {
     ghost use Rattle.std.specs.Prelude.{◌≡◌};
-    ghost use Rattle.review_policy.specs.declared.fault.Fault.TheVariants.{NoMemory};
+    ghost use Rattle.office_words.specs.declared.fault.Fault.TheVariants.{NoMemory};
     ghost use Rattle.office_judging.specs.declared.refusal.Refusal.TheVariants.{Fault};
     ghost use Rattle.no_memory.specs.Witness.{witness};
 

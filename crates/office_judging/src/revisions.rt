@@ -10,8 +10,7 @@ ghost use Rattle.office_judging.specs.Looked.{authored_at};
 ghost use Rattle.office_judging.specs.Summarized.{as_asked};
 
 use office_store::{Summary, is_author, summary_at};
-use office_tables::RevisionRow;
-use review_policy::{Fault, ProfileName, State, Word};
+use office_words::{Fault, ProfileName, RevisionRow, State, Word};
 use sqlite::{Alter, Connection};
 
 // The state of a revision that is there.

@@ -10,9 +10,9 @@ ghost use Rattle.office_judging.specs.Judged.{JudgesRead};
 use crate::reading::read_facts;
 use crate::refusal::Refusal;
 use office_store::revision;
-use office_tables::UserRow;
+use office_words::{ProfileName, UserRow};
+use review_policy::Reply;
 use review_policy::decide::decide_read;
-use review_policy::{ProfileName, Reply};
 use sqlite::{Alter, Connection};
 use std::alloc::Global;
 

@@ -4,11 +4,11 @@ ghost use Rattle.std.specs.Prelude.{◌≡◌, ◌<◌, suc, Some, not, IfOk, If
 ghost use Rattle.sqlite.specs.Held.{state};
 ghost use Rattle.review_policy.specs.declared.ask.Ask.TheVariants as ask;
 ghost use Rattle.review_policy.specs.declared.facts.TheConstants.SubmitFacts.{PASSING};
-ghost use Rattle.review_policy.specs.Rules.{max_revisions};
+ghost use Rattle.office_words.specs.Limits.{max_revisions};
 ghost use Rattle.profile_text.specs.Digest.{digest_of};
 ghost use Rattle.profile_text.specs.Reading.{reading_of};
-ghost use Rattle.office_tables.specs.Lists.{holds_role};
-ghost use Rattle.office_tables.specs.Reads.{submitted};
+ghost use Rattle.office_words.specs.Lists.{holds_role};
+ghost use Rattle.office_words.specs.Reads.{submitted};
 ghost use Rattle.office_store.specs.Shown.{IsIdle};
 ghost use Rattle.office_policy.specs.Users.{is_of_team};
 ghost use Rattle.office_policy.specs.Revisions.{if_open, number_of};
@@ -20,11 +20,11 @@ ghost use Rattle.office_judging.specs.Judged.{IsAskedBy, JudgesChange, added_by}
 use crate::refusal::Refusal;
 use office_policy::{Allowed, Change};
 use office_store::last;
-use office_tables::{RevisionRow, UserRow};
+use office_words::{Fault, ProfileName, RevisionRow, Role, State, Text, UserRow, Word};
 use profile_text::{DocFault, digest, fault_text, read_with_text};
+use review_policy::Reply;
 use review_policy::decide::decide_submit;
 use review_policy::facts::SubmitFacts;
-use review_policy::{Fault, ProfileName, Reply, Role, State, Text, Word};
 use sqlite::{Alter, Connection};
 use std::alloc::{AllocError, Global};
 

@@ -5,7 +5,7 @@ ghost use Rattle.sqlite.specs.Held.{state};
 ghost use Rattle.review_policy.specs.declared.ask.Ask.TheVariants as ask;
 ghost use Rattle.review_policy.specs.declared.facts.TheConstants.VoteFacts.{PASSING};
 ghost use Rattle.office_store.specs.Shown.{IsIdle};
-ghost use Rattle.office_tables.specs.Lists.{holds_role};
+ghost use Rattle.office_words.specs.Lists.{holds_role};
 ghost use Rattle.office_policy.specs.Facts.{vote_facts, has_digest};
 ghost use Rattle.office_judging.specs.Judged.{IsAskedBy, JudgesChange};
 ghost use Rattle.office_judging.specs.Summarized.{as_asked};
@@ -14,10 +14,10 @@ use crate::refusal::Refusal;
 use crate::revisions::{authored, state_of};
 use office_policy::{Allowed, Change};
 use office_store::Summary;
-use office_tables::UserRow;
+use office_words::{ProfileName, Role, UserRow};
+use review_policy::Reply;
 use review_policy::decide::decide_vote;
 use review_policy::facts::VoteFacts;
-use review_policy::{ProfileName, Reply, Role};
 use sqlite::{Alter, Connection};
 
 // What the rules ask of a caller.

@@ -6,7 +6,7 @@ ghost use Rattle.review_policy.specs.declared.act.RevisionAct.TheVariants.{Withd
 ghost use Rattle.review_policy.specs.declared.ask.Ask.TheVariants as ask;
 ghost use Rattle.review_policy.specs.declared.facts.TheConstants.WithdrawFacts.{PASSING};
 ghost use Rattle.office_store.specs.Shown.{IsIdle};
-ghost use Rattle.office_tables.specs.Lists.{holds_role};
+ghost use Rattle.office_words.specs.Lists.{holds_role};
 ghost use Rattle.office_policy.specs.Users.{is_of_team};
 ghost use Rattle.office_policy.specs.Facts.{withdraw_facts};
 ghost use Rattle.office_judging.specs.Judged.{IsAskedBy, JudgesChange};
@@ -16,10 +16,10 @@ use crate::refusal::Refusal;
 use crate::revisions::state_of;
 use office_policy::{Allowed, Change};
 use office_store::{Summary, summary_at};
-use office_tables::UserRow;
+use office_words::{ProfileName, Role, UserRow, Word};
 use review_policy::decide::decide_withdraw;
 use review_policy::facts::WithdrawFacts;
-use review_policy::{ProfileName, Reply, RevisionAct, Role, Word};
+use review_policy::{Reply, RevisionAct};
 use sqlite::{Alter, Connection};
 
 // What the rules ask of a caller and a team.

@@ -5,7 +5,7 @@ use Rattle.profile_text.specs.Digest.{digest_of}
 use Rattle.profile_text.specs.Reading.{reading_of}
 use Rattle.profile_text.specs.declared.profile.Profile.{Profile}
 use Rattle.profile_text.specs.declared.fault.DocFault.{DocFault}
-use Rattle.review_policy.specs.declared.ask.ProfileName.{ProfileName}
+use Rattle.office_words.specs.declared.name.ProfileName.{ProfileName}
 use Rattle.review_policy.specs.declared.ask.Ask.{Ask}
 use Rattle.review_policy.specs.declared.ask.Ask.TheVariants as ask
 use Rattle.review_policy.specs.declared.ask.Request.{Request}
@@ -13,7 +13,7 @@ use Rattle.review_policy.specs.declared.answer.Reply.{Reply}
 use Rattle.review_policy.specs.declared.answer.Reply.TheVariants as reply
 use Rattle.review_policy.specs.declared.denial.Rule.{Rule}
 use Rattle.review_policy.specs.Rules.{first_from, first_denial}
-use Rattle.office_tables.specs.declared.row.UserRow.{UserRow}
+use Rattle.office_words.specs.declared.row.UserRow.{UserRow}
 use Rattle.office_policy.specs.History.{Event, on_revision, History}
 use Rattle.office_policy.specs.Users.{user_showing, name_of}
 use Rattle.office_policy.specs.Revisions.{revision_of, issued_revision}

@@ -2,10 +2,10 @@
 use Rattle.std.proofs.Common.{◌≡◌, ◌∙◌, ◌≤◌, ◌==◌, ◌&&◌, ◌||◌, ℕ, suc, List, [], ◌∷◌, ◌++◌, Bool, true, false, cond, Some, None, Option, refl, sym, ap, subst, arith, eqb-true}
 use Rattle.std.specs.Prelude.{is_none, bytes_eq}
 use Rattle.std.specs.List.{list_any}
-use Rattle.review_policy.specs.declared.ask.ProfileName.{ProfileName}
-use Rattle.review_policy.specs.declared.revision.State.{State}
+use Rattle.office_words.specs.declared.name.ProfileName.{ProfileName}
+use Rattle.office_words.specs.declared.revision.State.{State}
 use Rattle.review_policy.specs.Rules.{is_open}
-use Rattle.office_tables.specs.Tables.{is_profile}
+use Rattle.office_words.specs.Tables.{is_profile}
 use Rattle.office_policy.specs.History.{Event, founded, enrolled, submitted, voted, on_revision, on_profile, History}
 use Rattle.office_policy.specs.Revisions.{submits, submission_of, revision_of, revision_count, is_author, state_in}
 use Rattle.office_policy.specs.Votes.{CastVote, vote_of}

@@ -3,8 +3,8 @@ use Rattle.std.proofs.Common.{inl, inr, ◌≤◌, ℕ, List, [], ◌∷◌, ◌
 use Rattle.review_policy.specs.declared.ask.Request.{Request}
 use Rattle.review_policy.specs.declared.answer.Answer.{Answer}
 use Rattle.review_policy.specs.declared.answer.Answer.TheVariants.{Done, Denied, Fault}
-use Rattle.review_policy.specs.declared.fault.Fault.{Fault as TheFault}
-use Rattle.review_policy.specs.declared.fault.Fault.TheVariants as faults
+use Rattle.office_words.specs.declared.fault.Fault.{Fault as TheFault}
+use Rattle.office_words.specs.declared.fault.Fault.TheVariants as faults
 use Rattle.office_policy.specs.History.{History}
 use Rattle.office_policy.specs.Verdict.{Verdict, verdict}
 use Rattle.office_policy.specs.Meaning.{Meaning}

@@ -12,15 +12,15 @@ use Rattle.profile_text.specs.Reads.{state_set}
 use Rattle.profile_text.specs.declared.profile.Profile.{Profile}
 use Rattle.profile_text.specs.declared.sets.CapSet.{CapSet}
 use Rattle.profile_text.specs.declared.sets.CapSet.TheVariants.{Ambient, Bounding, Effective, Inheritable, Permitted}
-use Rattle.review_policy.specs.declared.ask.ProfileName.{ProfileName}
+use Rattle.office_words.specs.declared.name.ProfileName.{ProfileName}
 use Rattle.review_policy.specs.declared.denial.Need.{Need}
 use Rattle.review_policy.specs.declared.denial.Need.TheVariants.{One, TwoWithSecurity}
-use Rattle.review_policy.specs.declared.revision.State.{State}
-use Rattle.review_policy.specs.declared.revision.State.TheVariants.{Open, Closed, Issued, Replaced, Withdrawn}
-use Rattle.review_policy.specs.declared.role.Role.TheVariants.{Reviewer}
+use Rattle.office_words.specs.declared.revision.State.{State}
+use Rattle.office_words.specs.declared.revision.State.TheVariants.{Open, Closed, Issued, Replaced, Withdrawn}
+use Rattle.office_words.specs.declared.role.Role.TheVariants.{Reviewer}
 use Rattle.review_policy.specs.Rules.{is_open, need_of, approvals_of, asks_security}
-use Rattle.office_tables.specs.Lists.{holds_role, standing_vote}
-use Rattle.office_tables.proofs.Members.{Has as IsIn, AreOnce, has_contained}
+use Rattle.office_words.specs.Lists.{holds_role, standing_vote}
+use Rattle.office_words.proofs.Members.{Has as IsIn, AreOnce, has_contained}
 use Rattle.widening.specs.Findings.{is_wider}
 use Rattle.widening.proofs.Permitted.{no_wider_by_test}
 use Rattle.profile_text.specs.Profile.{all_sets, holds_listed}

@@ -7,15 +7,15 @@ use Rattle.review_policy.specs.declared.act.Effect.{Effect}
 use Rattle.review_policy.specs.declared.act.Effect.TheVariants.{Issues, Withdraws, Adopts}
 use Rattle.review_policy.specs.declared.act.ProfileAct.{ProfileAct}
 use Rattle.review_policy.specs.declared.act.RevisionAct.{RevisionAct}
-use Rattle.review_policy.specs.declared.ask.ProfileName.{ProfileName}
-use Rattle.review_policy.specs.declared.revision.State.TheVariants.{Withdrawn}
-use Rattle.review_policy.specs.declared.role.Role.TheVariants.{Security}
+use Rattle.office_words.specs.declared.name.ProfileName.{ProfileName}
+use Rattle.office_words.specs.declared.revision.State.TheVariants.{Withdrawn}
+use Rattle.office_words.specs.declared.role.Role.TheVariants.{Security}
 use Rattle.review_policy.specs.Acts.{effect_of, is_effect}
 use Rattle.review_policy.specs.Rules.{is_open}
-use Rattle.office_tables.specs.declared.row.RevisionRow.{RevisionRow}
-use Rattle.office_tables.specs.Tables.{Tables, Vote, is_profile}
-use Rattle.office_tables.specs.Lists.{holds_role}
-use Rattle.office_tables.specs.Changes.{founded_tables, with_user, in_state, with_revision, with_vote, with_issued, with_withdrawn, with_baseline}
+use Rattle.office_words.specs.declared.row.RevisionRow.{RevisionRow}
+use Rattle.office_words.specs.Tables.{Tables, Vote, is_profile}
+use Rattle.office_words.specs.Lists.{holds_role}
+use Rattle.office_words.specs.Changes.{founded_tables, with_user, in_state, with_revision, with_vote, with_issued, with_withdrawn, with_baseline}
 use Rattle.office_policy.specs.History.{founded, enrolled, submitted, voted, on_revision, on_profile, History}
 use Rattle.office_policy.specs.Users.{user_of}
 use Rattle.office_policy.specs.Revisions.{Submission, issues, withdraws, is_replaced, revision_count, submission_of, revision_of, state_in}

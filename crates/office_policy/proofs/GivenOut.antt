@@ -7,18 +7,18 @@ use Rattle.review_policy.specs.declared.act.ProfileView.TheVariants.{Fetch}
 use Rattle.review_policy.specs.declared.act.ProfileView.TheVariants as views
 use Rattle.review_policy.specs.declared.act.RevisionAct.TheVariants.{Issue}
 use Rattle.review_policy.specs.declared.act.RevisionView.TheVariants.{Show}
-use Rattle.review_policy.specs.declared.ask.ProfileName.{ProfileName}
+use Rattle.office_words.specs.declared.name.ProfileName.{ProfileName}
 use Rattle.review_policy.specs.declared.ask.Ask.{Ask}
 use Rattle.review_policy.specs.declared.ask.Ask.TheVariants as ask
 use Rattle.review_policy.specs.declared.ask.Request.{Request}
 use Rattle.review_policy.specs.declared.answer.Reply.{Reply}
 use Rattle.review_policy.specs.declared.answer.Reply.TheVariants as reply
 use Rattle.review_policy.specs.declared.denial.Denial.{Denial}
-use Rattle.review_policy.specs.declared.revision.State.{State}
-use Rattle.review_policy.specs.declared.revision.State.TheVariants.{Open, Closed, Issued, Replaced, Withdrawn}
+use Rattle.office_words.specs.declared.revision.State.{State}
+use Rattle.office_words.specs.declared.revision.State.TheVariants.{Open, Closed, Issued, Replaced, Withdrawn}
 use Rattle.review_policy.specs.Rules.{is_issued, issue_rules, fetch_rules, first_denial, behind_caller}
-use Rattle.office_tables.specs.declared.row.UserRow.{UserRow}
-use Rattle.office_tables.specs.declared.row.RevisionRow.{RevisionRow}
+use Rattle.office_words.specs.declared.row.UserRow.{UserRow}
+use Rattle.office_words.specs.declared.row.RevisionRow.{RevisionRow}
 use Rattle.office_policy.specs.History.{Event, issued as issued_event, History}
 use Rattle.office_policy.specs.Users.{user_showing, name_of}
 use Rattle.office_policy.specs.Revisions.{Submission, submission_of, revision_of, revision_count, state_of, issues, withdraws, is_replaced, is_author, last_issue, if_issued, issued_revision}

@@ -3,14 +3,14 @@ use Rattle.std.proofs.Common.{◌⊎◌, inl, inr, ◌≡◌, ◌≢◌, ◌∙�
 use Rattle.std.specs.Prelude.{is_some, option_map, bytes_eq}
 use Rattle.std.specs.List.{list_any}
 use Rattle.std.proofs.lemmas.Slice.Eq.{bytes_eq-Decides}
-use Rattle.review_policy.specs.declared.ask.ProfileName.{ProfileName}
-use Rattle.review_policy.specs.declared.revision.State.{State}
+use Rattle.office_words.specs.declared.name.ProfileName.{ProfileName}
+use Rattle.office_words.specs.declared.revision.State.{State}
 use Rattle.review_policy.specs.Rules.{is_issued}
-use Rattle.office_tables.specs.declared.listed.ListedRevision.{ListedRevision}
-use Rattle.office_tables.specs.declared.row.RevisionRow.{RevisionRow}
-use Rattle.office_tables.specs.Lists.{profile_of, IsListed, AreRevisionsOf}
-use Rattle.office_tables.specs.Tables.{Tables}
-use Rattle.office_tables.proofs.Members.{Has, has_contained, contains_had}
+use Rattle.office_words.specs.declared.listed.ListedRevision.{ListedRevision}
+use Rattle.office_words.specs.declared.row.RevisionRow.{RevisionRow}
+use Rattle.office_words.specs.Lists.{profile_of, IsListed, AreRevisionsOf}
+use Rattle.office_words.specs.Tables.{Tables}
+use Rattle.office_words.proofs.Members.{Has, has_contained, contains_had}
 use Rattle.office_policy.specs.History.{History}
 use Rattle.office_policy.specs.Revisions.{Submission, submission_of, revision_count, state_of, number_of, issued_revision}
 use Rattle.office_policy.specs.Listing.{profiles_of, listing_of}

@@ -4,11 +4,11 @@ use Rattle.std.specs.Prelude.{map, bytes_eq}
 use Rattle.std.proofs.lemmas.Cmp.{nat_list_cmp_total, tied_itself}
 use Rattle.std.proofs.lemmas.Slice.Eq.{bytes_eq-Decides}
 use Rattle.review_policy.specs.declared.answer.ListedProfile.{ListedProfile}
-use Rattle.review_policy.specs.declared.revision.State.{State}
+use Rattle.office_words.specs.declared.revision.State.{State}
 use Rattle.review_policy.specs.Rules.{is_issued}
-use Rattle.office_tables.specs.declared.listed.ListedRevision.{ListedRevision}
-use Rattle.office_tables.specs.Lists.{name_cmp}
-use Rattle.office_tables.proofs.Members.{Has}
+use Rattle.office_words.specs.declared.listed.ListedRevision.{ListedRevision}
+use Rattle.office_words.specs.Lists.{name_cmp}
+use Rattle.office_words.proofs.Members.{Has}
 use Rattle.office_policy.specs.Grouped.{is_last, issued_with, listed_by, profiles_left, profiles_in}
 use Rattle.office_policy.proofs.Rows.{row, rows_from, rows_of}
 use Rattle.office_policy.proofs.Rising.{NameBelow, IsRising}

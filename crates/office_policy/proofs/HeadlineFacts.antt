@@ -5,16 +5,16 @@ use Rattle.std.specs.List.{list_any}
 use Rattle.profile_text.specs.Digest.{digest_of}
 use Rattle.review_policy.specs.declared.act.ProfileView.TheVariants.{Fetch}
 use Rattle.review_policy.specs.declared.act.ProfileView.TheVariants as views
-use Rattle.review_policy.specs.declared.ask.ProfileName.{ProfileName}
+use Rattle.office_words.specs.declared.name.ProfileName.{ProfileName}
 use Rattle.review_policy.specs.declared.ask.Ask.TheVariants as ask
 use Rattle.review_policy.specs.declared.ask.Request.{Request}
 use Rattle.review_policy.specs.declared.answer.Answer.{Answer}
 use Rattle.review_policy.specs.declared.answer.Answer.TheVariants.{Done}
 use Rattle.review_policy.specs.declared.answer.Reply.TheVariants as reply
-use Rattle.review_policy.specs.declared.role.Role.TheVariants.{Reviewer, Security}
-use Rattle.office_tables.specs.Lists.{holds_role, standing_vote}
-use Rattle.office_tables.specs.Tables.{is_profile}
-use Rattle.office_tables.proofs.Members.{Has as IsIn, contains_had}
+use Rattle.office_words.specs.declared.role.Role.TheVariants.{Reviewer, Security}
+use Rattle.office_words.specs.Lists.{holds_role, standing_vote}
+use Rattle.office_words.specs.Tables.{is_profile}
+use Rattle.office_words.proofs.Members.{Has as IsIn, contains_had}
 use Rattle.office_policy.specs.History.{Event, issued, History}
 use Rattle.office_policy.specs.Users.{user_of}
 use Rattle.office_policy.specs.Revisions.{Submission, issues, submission_of}

@@ -4,12 +4,12 @@ use Rattle.std.specs.Prelude.{is_some, option_map, nat_lt, bytes_eq}
 use Rattle.std.specs.List.{list_any}
 use Rattle.std.proofs.lemmas.Bool.{ne_eqb, lt-ltb}
 use Rattle.review_policy.specs.declared.act.Effect.TheVariants.{Issues}
-use Rattle.review_policy.specs.declared.ask.ProfileName.{ProfileName}
-use Rattle.review_policy.specs.declared.revision.State.TheVariants.{Open}
+use Rattle.office_words.specs.declared.name.ProfileName.{ProfileName}
+use Rattle.office_words.specs.declared.revision.State.TheVariants.{Open}
 use Rattle.review_policy.specs.Acts.{has_effect}
 use Rattle.review_policy.specs.Rules.{is_issued}
-use Rattle.office_tables.specs.declared.row.UserRow.{UserRow}
-use Rattle.office_tables.specs.Tables.{is_profile}
+use Rattle.office_words.specs.declared.row.UserRow.{UserRow}
+use Rattle.office_words.specs.Tables.{is_profile}
 use Rattle.office_policy.specs.History.{Event, founded, enrolled, submitted, on_revision, History}
 use Rattle.office_policy.specs.Users.{user_of}
 use Rattle.office_policy.specs.Revisions.{Submission, issues, withdraws, is_replaced, revision_count, submission_of, revision_of, state_in, last_issue}

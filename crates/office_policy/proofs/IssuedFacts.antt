@@ -1,10 +1,10 @@
 -- The issued revision of a profile is that of its newest issue.
 use Rattle.std.proofs.Common.{◌≡◌, ◌∙◌, ℕ, true, false, cond, Some, None, Option, refl, sym, ap, subst}
 use Rattle.std.specs.Prelude.{option_map, option_and_then}
-use Rattle.review_policy.specs.declared.ask.ProfileName.{ProfileName}
+use Rattle.office_words.specs.declared.name.ProfileName.{ProfileName}
 use Rattle.review_policy.specs.Rules.{is_issued}
-use Rattle.office_tables.specs.declared.row.RevisionRow.{RevisionRow}
-use Rattle.office_tables.specs.Reads.{IsIssued}
+use Rattle.office_words.specs.declared.row.RevisionRow.{RevisionRow}
+use Rattle.office_words.specs.Reads.{IsIssued}
 use Rattle.office_policy.specs.History.{History}
 use Rattle.office_policy.specs.Revisions.{Submission, revision_count, submission_of, revision_of, state_in, last_issue, if_issued, issued_revision}
 use Rattle.office_policy.specs.TablesOf.{tables_of}

@@ -5,12 +5,12 @@ use Rattle.std.specs.List.{list_any}
 use Rattle.std.proofs.lemmas.Bool.{or_parts}
 use Rattle.profile_text.specs.Digest.{digest_of}
 use Rattle.review_policy.specs.declared.act.Effect.TheVariants.{Issues}
-use Rattle.review_policy.specs.declared.ask.ProfileName.{ProfileName}
-use Rattle.review_policy.specs.declared.revision.State.TheVariants.{Issued}
+use Rattle.office_words.specs.declared.name.ProfileName.{ProfileName}
+use Rattle.office_words.specs.declared.revision.State.TheVariants.{Issued}
 use Rattle.review_policy.specs.Rules.{is_open}
-use Rattle.office_tables.specs.declared.row.RevisionRow.{RevisionRow}
-use Rattle.office_tables.specs.Tables.{is_profile}
-use Rattle.office_tables.specs.Changes.{in_state, after_issue}
+use Rattle.office_words.specs.declared.row.RevisionRow.{RevisionRow}
+use Rattle.office_words.specs.Tables.{is_profile}
+use Rattle.office_words.specs.Changes.{in_state, after_issue}
 use Rattle.office_policy.specs.History.{History}
 use Rattle.office_policy.specs.Revisions.{Submission, issues_profile, issues, withdraws, is_replaced, revision_count, submission_of, revision_of, state_in}
 use Rattle.office_policy.proofs.StateFacts.{same_profile, state_by, row_after, row_at}

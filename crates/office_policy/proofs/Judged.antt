@@ -2,7 +2,7 @@
 use Rattle.std.proofs.Common.{◌≡◌, ◌≢◌, ◌≤◌, ℕ, suc, List, [], ◌∷◌, Bool, true, false, Some, None, Option, Ok, Err, refl, ap, arith}
 use Rattle.std.specs.Prelude.{Result, is_none, is_err}
 use Rattle.review_policy.specs.declared.act.RevisionAct.TheVariants.{Issue}
-use Rattle.review_policy.specs.declared.ask.ProfileName.{ProfileName}
+use Rattle.office_words.specs.declared.name.ProfileName.{ProfileName}
 use Rattle.review_policy.specs.declared.ask.Ask.{Ask}
 use Rattle.review_policy.specs.declared.ask.Ask.TheVariants as ask
 use Rattle.review_policy.specs.declared.ask.Request.{Request}
@@ -15,8 +15,8 @@ use Rattle.profile_text.specs.declared.profile.Profile.{Profile}
 use Rattle.profile_text.specs.declared.fault.DocFault.{DocFault}
 use Rattle.profile_text.specs.Reading.{reading_of}
 use Rattle.profile_text.specs.Digest.{digest_of}
-use Rattle.office_tables.specs.declared.row.UserRow.{UserRow}
-use Rattle.office_tables.specs.declared.row.RevisionRow.{RevisionRow}
+use Rattle.office_words.specs.declared.row.UserRow.{UserRow}
+use Rattle.office_words.specs.declared.row.RevisionRow.{RevisionRow}
 use Rattle.office_policy.specs.History.{on_revision, History}
 use Rattle.office_policy.specs.Users.{user_showing, name_of}
 use Rattle.office_policy.specs.Revisions.{revision_of, revision_count, last_revision, issued_revision, state_in}

@@ -5,26 +5,27 @@ use Rattle.review_policy.specs.declared.act.Effect.{Effect}
 use Rattle.review_policy.specs.declared.act.Effect.TheVariants.{Issues, Withdraws, Adopts}
 use Rattle.review_policy.specs.declared.act.RevisionAct.{RevisionAct}
 use Rattle.review_policy.specs.declared.act.RevisionAct.TheVariants.{Issue, Withdraw, Adopt}
-use Rattle.review_policy.specs.declared.ask.ProfileName.{ProfileName}
+use Rattle.office_words.specs.declared.name.ProfileName.{ProfileName}
 use Rattle.review_policy.specs.declared.ask.Ask.{Ask}
 use Rattle.review_policy.specs.declared.ask.Ask.TheVariants as ask
 use Rattle.review_policy.specs.declared.ask.Request.{Request}
 use Rattle.review_policy.specs.declared.answer.Reply.{Reply}
 use Rattle.review_policy.specs.declared.answer.Reply.TheVariants as reply
-use Rattle.review_policy.specs.declared.revision.State.{State}
-use Rattle.review_policy.specs.declared.role.Role.{Role}
-use Rattle.review_policy.specs.declared.role.Role.TheVariants.{Author, Reviewer, Security, Issuer}
+use Rattle.office_words.specs.declared.revision.State.{State}
+use Rattle.office_words.specs.declared.role.Role.{Role}
+use Rattle.office_words.specs.declared.role.Role.TheVariants.{Author, Reviewer, Security, Issuer}
 use Rattle.review_policy.specs.Acts.{effect_of}
-use Rattle.review_policy.specs.Rules.{max_revisions, approvals_of, asks_security, is_open, is_issued, is_standing, enrol_rules, submit_rules, vote_rules, issue_rules, withdraw_rules, adopt_rules, first_denial, behind_caller}
+use Rattle.office_words.specs.Limits.{max_revisions}
+use Rattle.review_policy.specs.Rules.{approvals_of, asks_security, is_open, is_issued, is_standing, enrol_rules, submit_rules, vote_rules, issue_rules, withdraw_rules, adopt_rules, first_denial, behind_caller}
 use Rattle.profile_text.specs.declared.profile.Profile.{Profile}
 use Rattle.profile_text.specs.declared.fault.DocFault.{DocFault}
 use Rattle.profile_text.specs.Reading.{reading_of}
 use Rattle.profile_text.specs.Digest.{digest_of}
 use Rattle.profile_text.specs.Text.{text_of}
 use Rattle.profile_text.proofs.ReadBack.{read_again}
-use Rattle.office_tables.specs.declared.row.UserRow.{UserRow}
-use Rattle.office_tables.specs.declared.row.RevisionRow.{RevisionRow}
-use Rattle.office_tables.specs.Lists.{holds_role}
+use Rattle.office_words.specs.declared.row.UserRow.{UserRow}
+use Rattle.office_words.specs.declared.row.RevisionRow.{RevisionRow}
+use Rattle.office_words.specs.Lists.{holds_role}
 use Rattle.office_policy.specs.History.{Event, founded, enrolled, submitted, voted, issued, withdrawn, adopted, on_revision, on_profile, History}
 use Rattle.office_policy.specs.Users.{user_of, user_showing, registrar_alone, name_of}
 use Rattle.office_policy.specs.Revisions.{revision_of, revision_count, last_revision, issued_revision, is_author, if_open, state_in}

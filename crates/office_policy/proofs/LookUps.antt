@@ -2,11 +2,11 @@
 use Rattle.std.proofs.Common.{◌≡◌, ◌∙◌, ◌==◌, ◌&&◌, ◌||◌, ◌↔◌, ℕ, suc, List, [], ◌∷◌, Bool, true, false, not, cond, Some, None, Option, refl, sym, ap, subst, arith, eq-eqb, ne_eqb}
 use Rattle.std.specs.Prelude.{is_some, option_map, bytes_eq}
 use Rattle.std.proofs.lemmas.Bool.{and_from, or_left, or_right, not-true, eqb-false}
-use Rattle.review_policy.specs.declared.ask.ProfileName.{ProfileName}
-use Rattle.office_tables.specs.declared.row.UserRow.{UserRow}
-use Rattle.office_tables.specs.Tables.{is_profile}
-use Rattle.office_tables.specs.Reads.{IsUserShowing, HasRevision}
-use Rattle.office_tables.specs.Lists.{IsAuthor}
+use Rattle.office_words.specs.declared.name.ProfileName.{ProfileName}
+use Rattle.office_words.specs.declared.row.UserRow.{UserRow}
+use Rattle.office_words.specs.Tables.{is_profile}
+use Rattle.office_words.specs.Reads.{IsUserShowing, HasRevision}
+use Rattle.office_words.specs.Lists.{IsAuthor}
 use Rattle.office_policy.specs.History.{submitted, History}
 use Rattle.office_policy.specs.Users.{user_showing}
 use Rattle.office_policy.specs.Revisions.{Submission, submission_of, revision_count, is_author}

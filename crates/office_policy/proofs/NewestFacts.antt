@@ -2,12 +2,12 @@
 use Rattle.std.proofs.Common.{◌⊎◌, inl, inr, ◌≡◌, ◌≢◌, ◌∙◌, ◌<◌, ◌≤◌, ◌==◌, ◌&&◌, ℕ, suc, List, [], ◌∷◌, Bool, true, false, cond, Some, None, Option, refl, sym, ap, subst, arith, eq-eqb, eqb-true}
 use Rattle.std.specs.Prelude.{filter, find, nat_lt, option_map}
 use Rattle.std.proofs.lemmas.Bool.{lt-ltb, ltb-true}
-use Rattle.review_policy.specs.declared.ask.ProfileName.{ProfileName}
-use Rattle.review_policy.specs.Rules.{max_revisions}
-use Rattle.office_tables.specs.declared.row.RevisionRow.{RevisionRow}
-use Rattle.office_tables.specs.Lists.{AreBelow}
-use Rattle.office_tables.specs.Tables.{is_profile}
-use Rattle.office_tables.proofs.Members.{Has, has_contained, contains_had}
+use Rattle.office_words.specs.declared.name.ProfileName.{ProfileName}
+use Rattle.office_words.specs.Limits.{max_revisions}
+use Rattle.office_words.specs.declared.row.RevisionRow.{RevisionRow}
+use Rattle.office_words.specs.Lists.{AreBelow}
+use Rattle.office_words.specs.Tables.{is_profile}
+use Rattle.office_words.proofs.Members.{Has, has_contained, contains_had}
 use Rattle.office_policy.specs.History.{Event, submitted, History}
 use Rattle.office_policy.specs.Revisions.{Submission, submission_of, revision_of, revision_count}
 use Rattle.office_policy.specs.Newest.{revisions_among, revisions_of, is_before, revisions_before}

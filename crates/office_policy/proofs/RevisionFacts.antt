@@ -2,10 +2,10 @@
 use Rattle.std.proofs.Common.{◌≡◌, ◌≢◌, ◌∙◌, ◌<◌, ◌≤◌, ◌==◌, ◌&&◌, ℕ, suc, [], ◌∷◌, length, true, false, cond, Some, None, Option, refl, ap, subst, arith}
 use Rattle.std.specs.Prelude.{is_some, is_none, filter, option_map}
 use Rattle.std.proofs.lemmas.Bool.{ne_eqb, eqb-false}
-use Rattle.review_policy.specs.declared.ask.ProfileName.{ProfileName}
-use Rattle.office_tables.specs.declared.row.RevisionRow.{RevisionRow}
-use Rattle.office_tables.specs.Tables.{is_profile}
-use Rattle.office_tables.specs.Reads.{IsLast}
+use Rattle.office_words.specs.declared.name.ProfileName.{ProfileName}
+use Rattle.office_words.specs.declared.row.RevisionRow.{RevisionRow}
+use Rattle.office_words.specs.Tables.{is_profile}
+use Rattle.office_words.specs.Reads.{IsLast}
 use Rattle.office_policy.specs.History.{Event, submitted, History}
 use Rattle.office_policy.specs.Revisions.{submits, revision_count, submission_of, revision_of, state_in}
 use Rattle.office_policy.specs.TablesOf.{tables_of}

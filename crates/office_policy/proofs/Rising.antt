@@ -6,8 +6,8 @@ use Rattle.std.specs.List.Sorted.{IsStrictlySortedBy}
 use Rattle.std.specs.Ordering.{ordering_reverse}
 use Rattle.std.specs.declared.cmp.Ordering.{Ordering}
 use Rattle.std.proofs.lemmas.Cmp.{nat_list_cmp_total}
-use Rattle.office_tables.specs.Lists.{name_cmp}
-use Rattle.office_tables.proofs.Members.{Has, place_of}
+use Rattle.office_words.specs.Lists.{name_cmp}
+use Rattle.office_words.proofs.Members.{Has, place_of}
 
 -- a member of a list has what all of it have
 all_has : {X : Type 0} (P : X → Type 0) (xs : List X) → AllByRecursion P xs → (x : X) → Has xs x → P x

@@ -4,10 +4,10 @@ use Rattle.std.specs.Ordering.{nat_cmp, ordering_reverse}
 use Rattle.std.specs.declared.cmp.Ordering.{Ordering}
 use Rattle.std.proofs.lemmas.Bool.{lt-ltb}
 use Rattle.std.proofs.lemmas.Cmp.{nat_list_cmp_total, nat_cmp_total, tied_itself}
-use Rattle.review_policy.specs.declared.revision.State.{State}
-use Rattle.office_tables.specs.declared.listed.ListedRevision.{ListedRevision}
-use Rattle.office_tables.specs.Lists.{name_cmp, listed_cmp}
-use Rattle.office_tables.proofs.Members.{Has}
+use Rattle.office_words.specs.declared.revision.State.{State}
+use Rattle.office_words.specs.declared.listed.ListedRevision.{ListedRevision}
+use Rattle.office_words.specs.Lists.{name_cmp, listed_cmp}
+use Rattle.office_words.proofs.Members.{Has}
 use Rattle.office_policy.proofs.Rising.{NameBelow, turned, IsRising, in_either, rising_append}
 
 abbrev pub RowBelow : ListedRevision → ListedRevision → Type 0

@@ -3,17 +3,17 @@ use Rattle.std.proofs.Common.{◌≡◌, ◌∙◌, ◌<◌, ◌==◌, ◌&&◌,
 use Rattle.std.specs.Prelude.{option_map, is_none, bytes_eq}
 use Rattle.review_policy.specs.declared.act.Effect.{Effect}
 use Rattle.review_policy.specs.declared.act.Effect.TheVariants.{Issues, Withdraws, Adopts}
-use Rattle.review_policy.specs.declared.ask.ProfileName.{ProfileName}
-use Rattle.review_policy.specs.declared.revision.State.{State}
-use Rattle.review_policy.specs.declared.revision.State.TheVariants.{Open, Issued, Withdrawn}
-use Rattle.review_policy.specs.declared.role.Role.TheVariants.{Security}
+use Rattle.office_words.specs.declared.name.ProfileName.{ProfileName}
+use Rattle.office_words.specs.declared.revision.State.{State}
+use Rattle.office_words.specs.declared.revision.State.TheVariants.{Open, Issued, Withdrawn}
+use Rattle.office_words.specs.declared.role.Role.TheVariants.{Security}
 use Rattle.review_policy.specs.Acts.{effect_of, holds}
 use Rattle.review_policy.specs.Rules.{is_open, is_standing}
-use Rattle.office_tables.specs.declared.row.UserRow.{UserRow}
-use Rattle.office_tables.specs.declared.row.RevisionRow.{RevisionRow}
-use Rattle.office_tables.specs.Tables.{Tables, Vote, Baseline, is_profile}
-use Rattle.office_tables.specs.Lists.{holds_role}
-use Rattle.office_tables.specs.Changes.{in_state, after_submission, after_issue, with_revision, with_issued, with_withdrawn}
+use Rattle.office_words.specs.declared.row.UserRow.{UserRow}
+use Rattle.office_words.specs.declared.row.RevisionRow.{RevisionRow}
+use Rattle.office_words.specs.Tables.{Tables, Vote, Baseline, is_profile}
+use Rattle.office_words.specs.Lists.{holds_role}
+use Rattle.office_words.specs.Changes.{in_state, after_submission, after_issue, with_revision, with_issued, with_withdrawn}
 use Rattle.office_policy.specs.History.{Event, founded, enrolled, submitted, voted, on_revision, on_profile, History}
 use Rattle.office_policy.specs.Users.{user_of}
 use Rattle.office_policy.specs.Revisions.{revision_of, revision_count, last_revision, if_open, state_in}

@@ -3,12 +3,12 @@ use Rattle.std.proofs.Common.{inl, inr, ◌≡◌, ◌∙◌, ℕ, List, [], ◌
 use Rattle.std.specs.Prelude.{option_map, filter_map}
 use Rattle.std.specs.List.{AllPairs, cons_option}
 use Rattle.std.specs.List.Sorted.{IsStrictlySortedBy}
-use Rattle.review_policy.specs.declared.ask.ProfileName.{ProfileName}
-use Rattle.review_policy.specs.declared.revision.VoteRow.{VoteRow}
-use Rattle.office_tables.specs.Tables.{Tables, Vote}
-use Rattle.office_tables.specs.Lists.{name_cmp, standing_vote, IsStanding, AreStanding}
-use Rattle.office_tables.proofs.Members.{Has, has_contained, contains_had}
-use Rattle.office_tables.proofs.Tallies.{AreVoters, standing_at}
+use Rattle.office_words.specs.declared.name.ProfileName.{ProfileName}
+use Rattle.office_words.specs.declared.revision.VoteRow.{VoteRow}
+use Rattle.office_words.specs.Tables.{Tables, Vote}
+use Rattle.office_words.specs.Lists.{name_cmp, standing_vote, IsStanding, AreStanding}
+use Rattle.office_words.proofs.Members.{Has, has_contained, contains_had}
+use Rattle.office_words.proofs.Tallies.{AreVoters, standing_at}
 use Rattle.office_policy.specs.History.{History}
 use Rattle.office_policy.specs.Votes.{voters_of, standing_votes}
 use Rattle.office_policy.specs.TablesOf.{tables_of}

@@ -1,9 +1,9 @@
 -- The last submission of a profile, and the number after it.
 use Rattle.std.proofs.Common.{◌≡◌, suc, Some, None, Option, sym, ap, arith}
 use Rattle.std.specs.Prelude.{option_map}
-use Rattle.review_policy.specs.declared.ask.ProfileName.{ProfileName}
-use Rattle.office_tables.specs.declared.row.RevisionRow.{RevisionRow}
-use Rattle.office_tables.specs.Reads.{IsLast}
+use Rattle.office_words.specs.declared.name.ProfileName.{ProfileName}
+use Rattle.office_words.specs.declared.row.RevisionRow.{RevisionRow}
+use Rattle.office_words.specs.Reads.{IsLast}
 use Rattle.office_policy.specs.History.{History}
 use Rattle.office_policy.specs.Revisions.{revision_of, revision_count, last_revision, number_of}
 use Rattle.office_policy.specs.TablesOf.{tables_of}

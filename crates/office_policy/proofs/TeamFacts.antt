@@ -10,20 +10,20 @@ use Rattle.profile_text.specs.declared.fault.DocFault.{DocFault}
 use Rattle.review_policy.specs.declared.act.Effect.TheVariants.{Issues, Withdraws, Adopts}
 use Rattle.review_policy.specs.declared.act.RevisionAct.TheVariants.{Issue, Withdraw, Adopt}
 use Rattle.review_policy.specs.declared.act.RevisionView.TheVariants.{Show, Sheet}
-use Rattle.review_policy.specs.declared.ask.ProfileName.{ProfileName}
+use Rattle.office_words.specs.declared.name.ProfileName.{ProfileName}
 use Rattle.review_policy.specs.declared.ask.Ask.{Ask}
 use Rattle.review_policy.specs.declared.ask.Ask.TheVariants as ask
 use Rattle.review_policy.specs.declared.ask.Request.{Request}
 use Rattle.review_policy.specs.declared.answer.Reply.TheVariants as reply
 use Rattle.review_policy.specs.declared.denial.Denial.{Denial}
-use Rattle.review_policy.specs.declared.role.Role.TheVariants.{Security}
+use Rattle.office_words.specs.declared.role.Role.TheVariants.{Security}
 use Rattle.review_policy.specs.Acts.{has_effect, holds}
 use Rattle.review_policy.specs.Rules.{first_denial, enrol_rules, submit_rules, vote_rules, issue_rules, withdraw_rules, adopt_rules, read_rules, fetch_rules, hold_rules, revisions_rules, behind_caller}
 use Rattle.review_sheet.specs.Sheet.{sheet_text}
-use Rattle.office_tables.specs.declared.row.UserRow.{UserRow}
-use Rattle.office_tables.specs.declared.row.RevisionRow.{RevisionRow}
-use Rattle.office_tables.specs.Lists.{holds_role, standing_vote}
-use Rattle.office_tables.specs.Tables.{Baseline, is_profile}
+use Rattle.office_words.specs.declared.row.UserRow.{UserRow}
+use Rattle.office_words.specs.declared.row.RevisionRow.{RevisionRow}
+use Rattle.office_words.specs.Lists.{holds_role, standing_vote}
+use Rattle.office_words.specs.Tables.{Baseline, is_profile}
 use Rattle.office_policy.specs.History.{Event, founded, enrolled, submitted, voted, on_profile, on_revision, History}
 use Rattle.office_policy.specs.Users.{registrar_alone, user_of, names_of, shows_digest, user_showing, name_of}
 use Rattle.office_policy.specs.Names.{with_name}

@@ -7,7 +7,7 @@ use Rattle.profile_text.specs.Reads.{StandsFor, HasKnownCaps}
 use Rattle.profile_text.specs.Text.{text_of}
 use Rattle.profile_text.proofs.KnownCaps.{known_by}
 use Rattle.profile_text.proofs.ReadsFacts.{reads_from, stored_from}
-use Rattle.office_tables.specs.Tables.{is_profile}
+use Rattle.office_words.specs.Tables.{is_profile}
 use Rattle.office_policy.specs.History.{Event, founded, submitted, History}
 use Rattle.office_policy.specs.Revisions.{Submission, submission_of, revision_count}
 use Rattle.office_policy.specs.Documents.{document_of, read_or_closed}

@@ -1,7 +1,7 @@
 -- Histories of requests with tokens, and lawful ones.
 use Rattle.std.proofs.Common.{◌≡◌, ◌∙◌, ◌↔◌, [], ◌∷◌, Some, sym, ap, subst}
 use Rattle.profile_text.specs.Digest.{digest_of}
-use Rattle.office_tables.specs.declared.row.UserRow.{UserRow}
+use Rattle.office_words.specs.declared.row.UserRow.{UserRow}
 use Rattle.office_policy.specs.History.{Event, History, founded}
 use Rattle.office_policy.specs.Users.{user_of}
 use Rattle.office_policy.specs.Verdict.{verdict_of, accepted}

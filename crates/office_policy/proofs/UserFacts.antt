@@ -3,7 +3,7 @@ use Rattle.std.proofs.Common.{◌≡◌, ◌≢◌, ◌∙◌, ℕ, List, [], �
 use Rattle.std.specs.Prelude.{bytes_eq, find, option_and_then}
 use Rattle.std.specs.List.{list_any}
 use Rattle.std.proofs.lemmas.Slice.Eq.{bytes_eq-Decides}
-use Rattle.office_tables.specs.declared.row.UserRow.{UserRow}
+use Rattle.office_words.specs.declared.row.UserRow.{UserRow}
 use Rattle.office_policy.specs.History.{founded, enrolled, History}
 use Rattle.office_policy.specs.Users.{user_of, names_of, shows_digest, user_showing}
 use Rattle.office_policy.specs.Laws.{AreApart}

@@ -6,12 +6,12 @@ use Rattle.std.specs.List.Sorted.{IsStrictlySortedBy}
 use Rattle.std.specs.Ordering.{nat_cmp}
 use Rattle.std.specs.Cmp.Lexicographic.{slice_cmp}
 use Rattle.std.proofs.lemmas.Cmp.{nat_list_cmp_total, tied_itself}
-use Rattle.review_policy.specs.declared.ask.ProfileName.{ProfileName}
-use Rattle.office_tables.specs.declared.listed.Tally.{Tally}
-use Rattle.office_tables.specs.Tables.{Vote, is_profile}
-use Rattle.office_tables.specs.Lists.{IsTally}
-use Rattle.office_tables.proofs.Members.{Has as IsIn, AreOnce}
-use Rattle.office_tables.proofs.Tallies.{AreVoters, tallied}
+use Rattle.office_words.specs.declared.name.ProfileName.{ProfileName}
+use Rattle.office_words.specs.declared.listed.Tally.{Tally}
+use Rattle.office_words.specs.Tables.{Vote, is_profile}
+use Rattle.office_words.specs.Lists.{IsTally}
+use Rattle.office_words.proofs.Members.{Has as IsIn, AreOnce}
+use Rattle.office_words.proofs.Tallies.{AreVoters, tallied}
 use Rattle.office_policy.specs.History.{voted, History}
 use Rattle.office_policy.specs.Names.{with_name}
 use Rattle.office_policy.specs.Votes.{CastVote, kept_vote, vote_of, voters_of, tally_at}

@@ -4,11 +4,11 @@ use Rattle.std.specs.Prelude.{option_map, bytes_eq}
 use Rattle.profile_text.specs.declared.profile.Profile.{Profile}
 use Rattle.profile_text.specs.Profile.{closed_profile}
 use Rattle.review_policy.specs.declared.act.Effect.TheVariants.{Adopts}
-use Rattle.review_policy.specs.declared.revision.State.{State}
-use Rattle.review_policy.specs.declared.revision.State.TheVariants.{Withdrawn}
+use Rattle.office_words.specs.declared.revision.State.{State}
+use Rattle.office_words.specs.declared.revision.State.TheVariants.{Withdrawn}
 use Rattle.review_policy.specs.Acts.{has_effect}
-use Rattle.office_tables.specs.declared.row.RevisionRow.{RevisionRow}
-use Rattle.office_tables.specs.Tables.{Baseline}
+use Rattle.office_words.specs.declared.row.RevisionRow.{RevisionRow}
+use Rattle.office_words.specs.Tables.{Baseline}
 use Rattle.office_policy.specs.History.{founded, on_revision, History}
 use Rattle.office_policy.specs.Revisions.{revision_of}
 use Rattle.office_policy.specs.Documents.{document_of}

@@ -12,7 +12,7 @@ use Rattle.review_policy.specs.declared.ask.Ask.TheVariants as ask
 use Rattle.review_policy.specs.declared.denial.Denial.{Denial}
 use Rattle.review_policy.specs.declared.denial.Rule.TheVariants.{RoleMissing, OtherTeam}
 use Rattle.review_policy.specs.Rules.{first_denial}
-use Rattle.office_tables.specs.declared.row.UserRow.{UserRow}
+use Rattle.office_words.specs.declared.row.UserRow.{UserRow}
 use Rattle.office_policy.specs.History.{History}
 use Rattle.office_policy.specs.Verdict.{rules_of}
 use Rattle.office_policy.specs.Callers.{of_caller}

@@ -10,11 +10,11 @@ use Rattle.review_policy.specs.declared.ask.Request.{Request}
 use Rattle.review_policy.specs.declared.denial.Rule.{Rule}
 use Rattle.review_policy.specs.declared.denial.Rule.TheVariants.{CallerUnknown, RoleMissing}
 use Rattle.review_policy.specs.declared.denial.Rule.TheVariants.{OtherTeam}
-use Rattle.review_policy.specs.declared.role.Role.{Role}
-use Rattle.review_policy.specs.declared.role.Role.TheVariants.{Registrar, Author, Reviewer}
-use Rattle.review_policy.specs.declared.role.Role.TheVariants.{Security, Issuer, Machine}
-use Rattle.office_tables.specs.declared.row.UserRow.{UserRow}
-use Rattle.office_tables.specs.Lists.{holds_role}
+use Rattle.office_words.specs.declared.role.Role.{Role}
+use Rattle.office_words.specs.declared.role.Role.TheVariants.{Registrar, Author, Reviewer}
+use Rattle.office_words.specs.declared.role.Role.TheVariants.{Security, Issuer, Machine}
+use Rattle.office_words.specs.declared.row.UserRow.{UserRow}
+use Rattle.office_words.specs.Lists.{holds_role}
 use Rattle.office_policy.specs.History.{Event, founded, did, History}
 use Rattle.office_policy.specs.Users.{user_of}
 use Rattle.office_policy.specs.Teams.{team_of}

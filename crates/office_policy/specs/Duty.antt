@@ -11,15 +11,15 @@ use Rattle.profile_text.specs.Reads.{state_set}
 use Rattle.profile_text.specs.Text.{text_of}
 use Rattle.profile_text.specs.declared.profile.Profile.{Profile}
 use Rattle.profile_text.specs.declared.sets.CapSet.{CapSet}
-use Rattle.review_policy.specs.declared.ask.ProfileName.{ProfileName}
+use Rattle.office_words.specs.declared.name.ProfileName.{ProfileName}
 use Rattle.review_policy.specs.declared.ask.Ask.{Ask}
 use Rattle.review_policy.specs.declared.ask.Ask.TheVariants as ask
 use Rattle.review_policy.specs.declared.answer.Reply.TheVariants as reply
 use Rattle.review_policy.specs.declared.denial.Need.TheVariants.{TwoWithSecurity}
-use Rattle.review_policy.specs.declared.revision.State.TheVariants.{Issued}
-use Rattle.review_policy.specs.declared.role.Role.TheVariants.{Reviewer}
+use Rattle.office_words.specs.declared.revision.State.TheVariants.{Issued}
+use Rattle.office_words.specs.declared.role.Role.TheVariants.{Reviewer}
 use Rattle.review_policy.specs.Rules.{approvals_of}
-use Rattle.office_tables.specs.Lists.{holds_role}
+use Rattle.office_words.specs.Lists.{holds_role}
 use Rattle.widening.specs.Permits.{IsNoWider}
 use Rattle.office_policy.specs.History.{Event, submitted, voted, History}
 use Rattle.office_policy.specs.Users.{user_of}

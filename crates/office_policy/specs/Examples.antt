@@ -8,17 +8,17 @@ use Rattle.profile_text.specs.declared.profile.Profile.{Profile}
 use Rattle.profile_text.specs.Digest.{digest_of}
 use Rattle.profile_text.specs.Profile.{no_caps}
 use Rattle.review_policy.specs.declared.act.ProfileAct.TheVariants.{Hold, Release}
-use Rattle.review_policy.specs.declared.answer.ProfileRevision.{ProfileRevision}
-use Rattle.review_policy.specs.declared.ask.ProfileName.{ProfileName}
+use Rattle.office_words.specs.declared.listed.ProfileRevision.{ProfileRevision}
+use Rattle.office_words.specs.declared.name.ProfileName.{ProfileName}
 use Rattle.review_policy.specs.declared.ask.Ask.{Ask}
 use Rattle.review_policy.specs.declared.ask.Ask.TheVariants as ask
 use Rattle.review_policy.specs.declared.denial.Denial.{Denial}
 use Rattle.review_policy.specs.declared.denial.Need.{Need}
 use Rattle.review_policy.specs.declared.denial.Rule.{Rule}
-use Rattle.review_policy.specs.declared.revision.State.{State}
-use Rattle.review_policy.specs.declared.revision.State.TheVariants.{Open}
+use Rattle.office_words.specs.declared.revision.State.{State}
+use Rattle.office_words.specs.declared.revision.State.TheVariants.{Open}
 use Rattle.review_policy.specs.Rules.{first_denial, submit_rules, vote_rules, issue_rules, behind_caller}
-use Rattle.office_tables.specs.declared.row.RevisionRow.{RevisionRow}
+use Rattle.office_words.specs.declared.row.RevisionRow.{RevisionRow}
 use Rattle.office_policy.specs.History.{Event, founded, enrolled, submitted, voted, issued}
 use Rattle.office_policy.specs.History.{withdrawn, adopted, on_profile, History}
 use Rattle.office_policy.specs.Users.{user_of}

@@ -1,8 +1,8 @@
 -- What the rules of each request ask, of what was looked back.
 use Rattle.std.specs.Prelude.{ℕ, List, Bool, false, not, ◌&&◌, ◌||◌, Option, Some, None, is_some}
 use Rattle.std.specs.Prelude.{is_none, is_err, Result, Ok, Err, bytes_eq}
-use Rattle.review_policy.specs.declared.role.Role.TheVariants.{Registrar, Author, Reviewer}
-use Rattle.review_policy.specs.declared.role.Role.TheVariants.{Security, Issuer, Machine}
+use Rattle.office_words.specs.declared.role.Role.TheVariants.{Registrar, Author, Reviewer}
+use Rattle.office_words.specs.declared.role.Role.TheVariants.{Security, Issuer, Machine}
 use Rattle.review_policy.specs.declared.denial.Need.{Need}
 use Rattle.review_policy.specs.declared.facts.EnrolFacts.{EnrolFacts}
 use Rattle.review_policy.specs.declared.facts.SubmitFacts.{SubmitFacts}
@@ -17,10 +17,10 @@ use Rattle.review_policy.specs.declared.facts.RevisionsFacts.{RevisionsFacts}
 use Rattle.profile_text.specs.declared.profile.Profile.{Profile}
 use Rattle.profile_text.specs.declared.fault.DocFault.{DocFault}
 use Rattle.profile_text.specs.Text.{text_of}
-use Rattle.office_tables.specs.declared.row.UserRow.{UserRow}
-use Rattle.office_tables.specs.declared.row.RevisionRow.{RevisionRow}
-use Rattle.office_tables.specs.declared.listed.Tally.{Tally}
-use Rattle.office_tables.specs.Lists.{holds_role}
+use Rattle.office_words.specs.declared.row.UserRow.{UserRow}
+use Rattle.office_words.specs.declared.row.RevisionRow.{RevisionRow}
+use Rattle.office_words.specs.declared.listed.Tally.{Tally}
+use Rattle.office_words.specs.Lists.{holds_role}
 use Rattle.office_policy.specs.Users.{is_named, is_of_team}
 use Rattle.office_policy.specs.Revisions.{if_open, state_in}
 

@@ -1,12 +1,12 @@
 -- The forms of what callers hand in: a request and a founding are of them by their types, but for a
 -- revision's number.
 use Rattle.std.specs.Prelude.{◌≡◌, ◌<◌, ◌≤◌, ◌^◌, ℕ, List, true, length, All, Some}
-use Rattle.review_policy.specs.declared.ask.ProfileName.{ProfileName}
+use Rattle.office_words.specs.declared.name.ProfileName.{ProfileName}
 use Rattle.review_policy.specs.declared.ask.Ask.{Ask}
 use Rattle.review_policy.specs.declared.ask.Ask.TheVariants as ask
 use Rattle.review_policy.specs.declared.ask.Request.{Request}
-use Rattle.review_policy.specs.Rules.{max_revisions}
-use Rattle.review_policy.specs.Words.{is_word, is_token}
+use Rattle.office_words.specs.Limits.{max_revisions}
+use Rattle.office_words.specs.Words.{is_word, is_token}
 
 abbrev pub IsWord : List ℕ → Type 0
 IsWord text = is_word text ≡ true

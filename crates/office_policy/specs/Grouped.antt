@@ -3,7 +3,7 @@
 use Rattle.std.specs.Prelude.{ℕ, List, [], ◌∷◌, Bool, true, not, if◌then◌else◌, Some, bytes_eq}
 use Rattle.review_policy.specs.declared.answer.ListedProfile.{ListedProfile}
 use Rattle.review_policy.specs.Rules.{is_issued}
-use Rattle.office_tables.specs.declared.listed.ListedRevision.{ListedRevision}
+use Rattle.office_words.specs.declared.listed.ListedRevision.{ListedRevision}
 
 -- whether no revision of the same profile comes next
 abbrev pub is_last : ListedRevision → List ListedRevision → Bool

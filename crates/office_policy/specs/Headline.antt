@@ -5,7 +5,7 @@ use Rattle.std.specs.Prelude.{AllPairs, Contains}
 use Rattle.profile_text.specs.Digest.{digest_of}
 use Rattle.review_policy.specs.declared.act.ProfileView.TheVariants.{Fetch, Issued}
 use Rattle.review_policy.specs.declared.act.RevisionAct.TheVariants.{Issue}
-use Rattle.review_policy.specs.declared.ask.ProfileName.{ProfileName}
+use Rattle.office_words.specs.declared.name.ProfileName.{ProfileName}
 use Rattle.review_policy.specs.declared.ask.Ask.{Ask}
 use Rattle.review_policy.specs.declared.ask.Ask.TheVariants as ask
 use Rattle.review_policy.specs.declared.ask.Request.{Request}
@@ -13,9 +13,9 @@ use Rattle.review_policy.specs.declared.answer.Answer.{Answer}
 use Rattle.review_policy.specs.declared.answer.Answer.TheVariants.{Done}
 use Rattle.review_policy.specs.declared.answer.Reply.TheVariants as reply
 use Rattle.review_policy.specs.declared.denial.Need.TheVariants.{TwoWithSecurity}
-use Rattle.review_policy.specs.declared.role.Role.TheVariants.{Reviewer, Security}
+use Rattle.office_words.specs.declared.role.Role.TheVariants.{Reviewer, Security}
 use Rattle.review_policy.specs.Rules.{approvals_of}
-use Rattle.office_tables.specs.Lists.{holds_role}
+use Rattle.office_words.specs.Lists.{holds_role}
 use Rattle.office_policy.specs.History.{issued, History}
 use Rattle.office_policy.specs.Users.{user_of, user_showing, name_of}
 use Rattle.office_policy.specs.Revisions.{submission_of, is_author}

@@ -3,7 +3,7 @@ use Rattle.std.specs.Prelude.{ℕ, List, Bool}
 use Rattle.review_policy.specs.declared.act.ProfileAct.{ProfileAct}
 use Rattle.review_policy.specs.declared.act.RevisionAct.{RevisionAct}
 use Rattle.review_policy.specs.declared.act.RevisionAct.TheVariants.{Issue, Withdraw, Adopt}
-use Rattle.review_policy.specs.declared.ask.ProfileName.{ProfileName}
+use Rattle.office_words.specs.declared.name.ProfileName.{ProfileName}
 use Rattle.office_policy.specs.declared.deed.Deed.{Deed}
 use Rattle.office_policy.specs.declared.deed.Deed.TheVariants as deeds
 

@@ -1,9 +1,9 @@
 -- Held profiles.
 use Rattle.std.specs.Prelude.{[], ◌∷◌, Bool, false, if◌then◌else◌}
 use Rattle.review_policy.specs.declared.act.ProfileAct.{ProfileAct}
-use Rattle.review_policy.specs.declared.ask.ProfileName.{ProfileName}
+use Rattle.office_words.specs.declared.name.ProfileName.{ProfileName}
 use Rattle.review_policy.specs.Acts.{holds}
-use Rattle.office_tables.specs.Tables.{Tables, is_profile}
+use Rattle.office_words.specs.Tables.{Tables, is_profile}
 use Rattle.office_policy.specs.History.{on_profile, History}
 
 -- a profile is held where the last act that names it holds it

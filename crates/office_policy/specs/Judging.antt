@@ -1,12 +1,12 @@
 -- What a request comes to before anything is changed.
 use Rattle.std.specs.Prelude.{◌≡◌, ℕ, suc, List, true, Some, Result, Ok, Err, ⊤}
 use Rattle.profile_text.specs.Digest.{digest_of}
-use Rattle.review_policy.specs.Words.{is_token}
+use Rattle.office_words.specs.Words.{is_token}
 use Rattle.review_policy.specs.declared.ask.Request.{Request}
 use Rattle.review_policy.specs.declared.answer.Answer.{Answer}
 use Rattle.review_policy.specs.declared.answer.Answer.TheVariants as answers
-use Rattle.review_policy.specs.declared.fault.Fault.{Fault}
-use Rattle.review_policy.specs.declared.revision.State.TheVariants.{Open}
+use Rattle.office_words.specs.declared.fault.Fault.{Fault}
+use Rattle.office_words.specs.declared.revision.State.TheVariants.{Open}
 use Rattle.office_policy.specs.declared.change.Change.{Change}
 use Rattle.office_policy.specs.declared.change.Change.TheVariants as changes
 use Rattle.office_policy.specs.declared.judge.Allowed.{Allowed}

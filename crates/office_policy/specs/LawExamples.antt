@@ -10,8 +10,8 @@ use Rattle.review_policy.specs.declared.act.RevisionView.TheVariants.{Show}
 use Rattle.review_policy.specs.declared.ask.Ask.{Ask}
 use Rattle.review_policy.specs.declared.ask.Ask.TheVariants as ask
 use Rattle.review_policy.specs.declared.ask.Request.{Request}
-use Rattle.review_policy.specs.declared.revision.State.TheVariants.{Open}
-use Rattle.review_policy.specs.declared.ask.ProfileName.{ProfileName}
+use Rattle.office_words.specs.declared.revision.State.TheVariants.{Open}
+use Rattle.office_words.specs.declared.name.ProfileName.{ProfileName}
 use Rattle.office_policy.specs.History.{Event, History, founded, enrolled, submitted, voted}
 use Rattle.office_policy.specs.History.{issued, withdrawn, adopted, on_profile}
 use Rattle.office_policy.specs.Examples.{blue, red, desk, root, ann, ben, rev, ray, sue, iss, web}

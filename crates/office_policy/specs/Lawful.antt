@@ -4,8 +4,8 @@ use Rattle.profile_text.specs.Digest.{digest_of}
 use Rattle.review_policy.specs.declared.ask.Ask.{Ask}
 use Rattle.review_policy.specs.declared.ask.Request.{Request}
 use Rattle.review_policy.specs.declared.answer.Reply.{Reply}
-use Rattle.review_policy.specs.Words.{is_token}
-use Rattle.office_tables.specs.declared.row.UserRow.{UserRow}
+use Rattle.office_words.specs.Words.{is_token}
+use Rattle.office_words.specs.declared.row.UserRow.{UserRow}
 use Rattle.office_policy.specs.History.{Event, founded, History}
 use Rattle.office_policy.specs.Users.{user_of}
 use Rattle.office_policy.specs.Verdict.{accepted, verdict_of, verdict}

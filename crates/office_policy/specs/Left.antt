@@ -3,7 +3,7 @@ use Rattle.std.specs.Prelude.{◌≡◌, ◌⊎◌, ℕ, List, ◌∷◌, Some, 
 use Rattle.review_policy.specs.declared.ask.Request.{Request}
 use Rattle.review_policy.specs.declared.answer.Answer.{Answer}
 use Rattle.review_policy.specs.declared.answer.Answer.TheVariants as answered
-use Rattle.review_policy.specs.declared.fault.Fault.{Fault}
+use Rattle.office_words.specs.declared.fault.Fault.{Fault}
 use Rattle.office_policy.specs.History.{History}
 use Rattle.office_policy.specs.Verdict.{verdict}
 use Rattle.office_policy.specs.Runs.{history_after}

@@ -1,6 +1,6 @@
 -- What is found by looking back over the history of an office.
 use Rattle.std.specs.Prelude.{◌≡◌}
-use Rattle.office_tables.specs.Tables.{Tables}
+use Rattle.office_words.specs.Tables.{Tables}
 use Rattle.office_policy.specs.History.{History}
 use Rattle.office_policy.specs.Lawful.{IsLawfulHistory}
 use Rattle.office_policy.specs.TablesOf.{tables_of}

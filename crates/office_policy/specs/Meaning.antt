@@ -1,6 +1,6 @@
 -- What an office is to those who see no store.
 use Rattle.std.specs.Prelude.{ℕ}
-use Rattle.review_policy.specs.declared.fault.Fault.{Fault}
+use Rattle.office_words.specs.declared.fault.Fault.{Fault}
 use Rattle.office_policy.specs.History.{Event, History}
 use Rattle.office_policy.specs.Lawful.{IsLawfulHistory}
 

@@ -1,11 +1,11 @@
 -- How many approvals a revision needs.
 use Rattle.std.specs.Prelude.{ℕ, List, Option, Some, None}
 use Rattle.profile_text.specs.declared.profile.Profile.{Profile}
-use Rattle.review_policy.specs.declared.ask.ProfileName.{ProfileName}
+use Rattle.office_words.specs.declared.name.ProfileName.{ProfileName}
 use Rattle.review_policy.specs.declared.denial.Need.{Need}
 use Rattle.review_policy.specs.declared.denial.Need.TheVariants.{One}
 use Rattle.review_policy.specs.Rules.{need_of}
-use Rattle.office_tables.specs.declared.row.RevisionRow.{RevisionRow}
+use Rattle.office_words.specs.declared.row.RevisionRow.{RevisionRow}
 use Rattle.widening.specs.Findings.{is_wider}
 use Rattle.profile_text.specs.Profile.{holds_listed}
 use Rattle.office_policy.specs.History.{History}

@@ -2,13 +2,13 @@
 use Rattle.std.specs.Prelude.{ℕ, suc, List, [], ◌∷◌, Bool, true, nat_lt, if◌then◌else◌, Option}
 use Rattle.std.specs.Prelude.{Some, None, filter, length, map, take}
 use Rattle.profile_text.specs.Digest.{digest_of}
-use Rattle.review_policy.specs.declared.ask.ProfileName.{ProfileName}
+use Rattle.office_words.specs.declared.name.ProfileName.{ProfileName}
 use Rattle.review_policy.specs.declared.answer.Reply.{Reply}
 use Rattle.review_policy.specs.declared.answer.Reply.TheVariants as reply
-use Rattle.review_policy.specs.Rules.{max_listed}
-use Rattle.office_tables.specs.declared.row.RevisionRow.{RevisionRow}
-use Rattle.office_tables.specs.Lists.{told_revision}
-use Rattle.office_tables.specs.Tables.{is_profile}
+use Rattle.office_words.specs.Limits.{max_listed}
+use Rattle.office_words.specs.declared.row.RevisionRow.{RevisionRow}
+use Rattle.office_words.specs.Lists.{told_revision}
+use Rattle.office_words.specs.Tables.{is_profile}
 use Rattle.office_policy.specs.History.{Event, submitted, History}
 use Rattle.office_policy.specs.Revisions.{revision_count, state_of}
 

@@ -5,14 +5,14 @@ use Rattle.std.specs.Prelude.{filter, length, bytes_eq}
 use Rattle.std.specs.List.{list_any}
 use Rattle.profile_text.specs.Digest.{digest_of}
 use Rattle.review_policy.specs.declared.act.Effect.TheVariants.{Issues, Withdraws}
-use Rattle.review_policy.specs.declared.ask.ProfileName.{ProfileName}
-use Rattle.review_policy.specs.declared.revision.State.{State}
-use Rattle.review_policy.specs.declared.revision.State.TheVariants.{Open, Closed, Issued, Replaced}
-use Rattle.review_policy.specs.declared.revision.State.TheVariants.{Withdrawn}
+use Rattle.office_words.specs.declared.name.ProfileName.{ProfileName}
+use Rattle.office_words.specs.declared.revision.State.{State}
+use Rattle.office_words.specs.declared.revision.State.TheVariants.{Open, Closed, Issued, Replaced}
+use Rattle.office_words.specs.declared.revision.State.TheVariants.{Withdrawn}
 use Rattle.review_policy.specs.Acts.{has_effect}
 use Rattle.review_policy.specs.Rules.{is_open, is_issued}
-use Rattle.office_tables.specs.declared.row.RevisionRow.{RevisionRow}
-use Rattle.office_tables.specs.Tables.{is_profile}
+use Rattle.office_words.specs.declared.row.RevisionRow.{RevisionRow}
+use Rattle.office_words.specs.Tables.{is_profile}
 use Rattle.office_policy.specs.History.{Event, submitted, on_revision, History}
 
 -- whether an event hands in a revision of the profile

@@ -1,7 +1,7 @@
 -- Review sheets, by looking back.
 use Rattle.std.specs.Prelude.{option_map}
-use Rattle.review_policy.specs.declared.ask.ProfileName.{ProfileName}
-use Rattle.office_tables.specs.declared.row.RevisionRow.{RevisionRow}
+use Rattle.office_words.specs.declared.name.ProfileName.{ProfileName}
+use Rattle.office_words.specs.declared.row.RevisionRow.{RevisionRow}
 use Rattle.review_sheet.specs.Facts.{SheetValue}
 use Rattle.office_policy.specs.History.{History}
 use Rattle.office_policy.specs.Votes.{standing_votes}

@@ -2,14 +2,14 @@
 use Rattle.std.specs.Prelude.{◌≡◌, ℕ, List, Some}
 use Rattle.review_policy.specs.declared.act.Effect.{Effect}
 use Rattle.review_policy.specs.declared.act.Effect.TheVariants.{Issues, Withdraws, Adopts}
-use Rattle.review_policy.specs.declared.ask.ProfileName.{ProfileName}
-use Rattle.review_policy.specs.declared.revision.State.TheVariants.{Open, Issued, Withdrawn}
-use Rattle.review_policy.specs.declared.role.Role.TheVariants.{Security}
+use Rattle.office_words.specs.declared.name.ProfileName.{ProfileName}
+use Rattle.office_words.specs.declared.revision.State.TheVariants.{Open, Issued, Withdrawn}
+use Rattle.office_words.specs.declared.role.Role.TheVariants.{Security}
 use Rattle.review_policy.specs.Acts.{effect_of, holds}
-use Rattle.office_tables.specs.declared.row.RevisionRow.{RevisionRow}
-use Rattle.office_tables.specs.Lists.{holds_role}
-use Rattle.office_tables.specs.Reads.{IsLast}
-use Rattle.office_tables.specs.Tables.{Tables}
+use Rattle.office_words.specs.declared.row.RevisionRow.{RevisionRow}
+use Rattle.office_words.specs.Lists.{holds_role}
+use Rattle.office_words.specs.Reads.{IsLast}
+use Rattle.office_words.specs.Tables.{Tables}
 use Rattle.office_policy.specs.History.{Event, founded, enrolled, submitted, voted}
 use Rattle.office_policy.specs.History.{on_revision, on_profile}
 use Rattle.office_policy.specs.Users.{registrar_alone}

@@ -1,5 +1,5 @@
 -- The tables that a history leaves: what looking back over it gives at each key.
-use Rattle.office_tables.specs.Tables.{Tables}
+use Rattle.office_words.specs.Tables.{Tables}
 use Rattle.office_policy.specs.History.{History}
 use Rattle.office_policy.specs.Users.{user_of}
 use Rattle.office_policy.specs.Revisions.{revision_of}

@@ -1,9 +1,9 @@
 -- Who is enrolled: what the last enrolment of a name gave it.
 use Rattle.std.specs.Prelude.{ℕ, ◌^◌, List, [], ◌∷◌, Bool, false, if◌then◌else◌, Option, Some, None}
 use Rattle.std.specs.Prelude.{option_and_then, bytes_eq, find}
-use Rattle.review_policy.specs.declared.role.Role.TheVariants.{Registrar}
-use Rattle.review_policy.specs.Role.{place_of}
-use Rattle.office_tables.specs.declared.row.UserRow.{UserRow}
+use Rattle.office_words.specs.declared.role.Role.TheVariants.{Registrar}
+use Rattle.office_words.specs.Role.{place_of}
+use Rattle.office_words.specs.declared.row.UserRow.{UserRow}
 use Rattle.office_policy.specs.History.{founded, enrolled, History}
 
 -- the roles of the first user

@@ -8,7 +8,7 @@ use Rattle.review_policy.specs.declared.act.RevisionAct.{RevisionAct}
 use Rattle.review_policy.specs.declared.act.RevisionAct.TheVariants.{Issue, Withdraw, Adopt}
 use Rattle.review_policy.specs.declared.act.RevisionView.{RevisionView}
 use Rattle.review_policy.specs.declared.act.RevisionView.TheVariants.{Show, Sheet}
-use Rattle.review_policy.specs.declared.ask.ProfileName.{ProfileName}
+use Rattle.office_words.specs.declared.name.ProfileName.{ProfileName}
 use Rattle.review_policy.specs.declared.ask.Ask.{Ask}
 use Rattle.review_policy.specs.declared.ask.Ask.TheVariants as ask
 use Rattle.review_policy.specs.declared.ask.Request.{Request}
@@ -27,8 +27,8 @@ use Rattle.profile_text.specs.Reading.{reading_of}
 use Rattle.profile_text.specs.Text.{text_of}
 use Rattle.profile_text.specs.FaultText.{fault_text_of}
 use Rattle.review_sheet.specs.Sheet.{sheet_text}
-use Rattle.office_tables.specs.declared.row.UserRow.{UserRow}
-use Rattle.office_tables.specs.declared.row.RevisionRow.{RevisionRow}
+use Rattle.office_words.specs.declared.row.UserRow.{UserRow}
+use Rattle.office_words.specs.declared.row.RevisionRow.{RevisionRow}
 use Rattle.office_policy.specs.History.{Event, enrolled, submitted, voted, on_revision}
 use Rattle.office_policy.specs.History.{on_profile, History}
 use Rattle.office_policy.specs.Users.{user_of, user_showing, name_of}

@@ -1,12 +1,12 @@
 -- Votes: the last one of each name on a revision stands, and counts while its voter is a reviewer.
 use Rattle.std.specs.Prelude.{ℕ, List, [], ◌∷◌, Bool, false, not, ◌&&◌, ◌==◌, if◌then◌else◌, Option}
 use Rattle.std.specs.Prelude.{Some, None, option_map, filter, filter_map, length, bytes_eq}
-use Rattle.review_policy.specs.declared.ask.ProfileName.{ProfileName}
-use Rattle.review_policy.specs.declared.revision.VoteRow.{VoteRow}
-use Rattle.review_policy.specs.declared.role.Role.TheVariants.{Security}
-use Rattle.office_tables.specs.declared.listed.Tally.{Tally}
-use Rattle.office_tables.specs.Tables.{Vote, is_profile}
-use Rattle.office_tables.specs.Lists.{holds_role, standing_vote}
+use Rattle.office_words.specs.declared.name.ProfileName.{ProfileName}
+use Rattle.office_words.specs.declared.revision.VoteRow.{VoteRow}
+use Rattle.office_words.specs.declared.role.Role.TheVariants.{Security}
+use Rattle.office_words.specs.declared.listed.Tally.{Tally}
+use Rattle.office_words.specs.Tables.{Vote, is_profile}
+use Rattle.office_words.specs.Lists.{holds_role, standing_vote}
 use Rattle.office_policy.specs.History.{voted, History}
 use Rattle.office_policy.specs.Users.{user_of}
 use Rattle.office_policy.specs.Names.{with_name}

@@ -9,7 +9,7 @@ ghost use Rattle.review_policy.specs.declared.ask.Ask.TheVariants.{Me};
 ghost use Rattle.review_policy.specs.declared.ask.Request.{Request};
 ghost use Rattle.review_policy.specs.declared.answer.Reply.{Reply};
 ghost use Rattle.review_policy.specs.declared.denial.Rule.TheVariants.{CallerUnknown};
-ghost use Rattle.office_tables.specs.declared.row.UserRow.{UserRow};
+ghost use Rattle.office_words.specs.declared.row.UserRow.{UserRow};
 ghost use Rattle.office_policy.specs.History.{Event, History};
 ghost use Rattle.office_policy.specs.Verdict.{verdict, accepted};
 ghost use Rattle.office_policy.specs.Lawful.{IsAllowed};

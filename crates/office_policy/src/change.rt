@@ -1,11 +1,11 @@
 //! What requests change, as values of a program.
 
-use office_tables::{RevisionRow, UserRow};
-use review_policy::{ProfileAct, ProfileName, RevisionAct};
+use office_words::{ProfileName, RevisionRow, UserRow};
+use review_policy::{ProfileAct, RevisionAct};
 
 /// What is to be done by a request of a changing kind, with the row that is written where it adds
 /// one. Digests are of SHA-256; revisions are numbered from 1.
-#[derive(Debug, Drop)]
+#[derive(Drop)]
 pub enum Change {
     /// A user is enrolled, or given these roles and the token of this digest: the row.
     Enrol {

@@ -1,10 +1,11 @@
 //! What users do in an office.
 
-use review_policy::{ProfileAct, ProfileName, RevisionAct, Roles, Text, Word};
+use office_words::{ProfileName, Roles, Text, Word};
+use review_policy::{ProfileAct, RevisionAct};
 
 /// What a user does in an office, by a request of a changing kind. Digests are of SHA-256; revisions
 /// are numbered from 1.
-#[derive(Debug, Drop)]
+#[derive(Drop)]
 pub enum Deed {
     /// A user is enrolled, or given these roles and the token of this digest.
     Enrol {

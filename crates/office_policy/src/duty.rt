@@ -8,11 +8,11 @@ ghost use Rattle.review_policy.specs.declared.act.ProfileView.TheVariants as vie
 ghost use Rattle.review_policy.specs.declared.act.RevisionAct.TheVariants.{Issue};
 ghost use Rattle.review_policy.specs.declared.act.RevisionView.TheVariants.{Show};
 ghost use Rattle.review_policy.specs.declared.ask.Ask.TheVariants as ask;
-ghost use Rattle.review_policy.specs.declared.ask.ProfileName.{ProfileName};
+ghost use Rattle.office_words.specs.declared.name.ProfileName.{ProfileName};
 ghost use Rattle.review_policy.specs.declared.ask.Request.{Request};
 ghost use Rattle.review_policy.specs.declared.answer.Reply.{Reply};
 ghost use Rattle.review_policy.specs.declared.answer.Reply.TheVariants as reply;
-ghost use Rattle.review_policy.specs.declared.revision.State.{State};
+ghost use Rattle.office_words.specs.declared.revision.State.{State};
 ghost use Rattle.office_policy.specs.History.{Event, History, issued};
 ghost use Rattle.office_policy.specs.Users.{user_showing, name_of};
 ghost use Rattle.office_policy.specs.Holds.{is_held};

@@ -2,10 +2,10 @@
 
 use crate::deed::Deed;
 use cap_sets::Caps;
-use review_policy::Word;
+use office_words::Word;
 
 /// What happened in an office: its founding, and what users did. Digests are of SHA-256.
-#[derive(Debug, Drop)]
+#[derive(Drop)]
 pub enum Event {
     /// The office was founded, with its first user, the digest of that user's token, and the
     /// listed capabilities.

@@ -2,11 +2,12 @@
 //! these parts say. Nothing is done here but to read them.
 
 ghost use Rattle.std.specs.Prelude.{◌≡◌, ◌<◌, ◌^◌, IsUtf8, true};
-ghost use Rattle.review_policy.specs.Words.{is_token};
+ghost use Rattle.office_words.specs.Words.{is_token};
 ghost use Rattle.office_policy.specs.Formed.{IsWord, IsRoles, IsName, IsDigest, HasForms};
 
 use cap_sets::Caps;
-use review_policy::{Ask, ProfileName, Request, Roles, Text, Word};
+use office_words::{ProfileName, Roles, Text, Word};
+use review_policy::{Ask, Request};
 
 /// A word is of its form.
 pub fn word_form(word: &Word)

@@ -19,7 +19,7 @@ pub trait Handler {
     /// Carries a request out where every rule of the policy allows it, and else names the first
     /// rule that refuses it.
     ///
-    /// A [`Fault`](review_policy::Fault) says that nothing changed.
+    /// A [`Fault`](office_words::Fault) says that nothing changed.
     fn handle(&mut self, alloc: Global, request: &Request) -> Answer
         ensures { IsHandled meaning self.old self.new request.now result };
 

@@ -2,9 +2,9 @@
 //! it does nothing.
 
 ghost use Rattle.std.specs.Prelude.{◌≡◌, Option};
-ghost use Rattle.review_policy.specs.declared.ask.ProfileName.{ProfileName};
-ghost use Rattle.office_tables.specs.declared.row.RevisionRow.{RevisionRow};
-ghost use Rattle.office_tables.specs.Reads.{IsIssued};
+ghost use Rattle.office_words.specs.declared.name.ProfileName.{ProfileName};
+ghost use Rattle.office_words.specs.declared.row.RevisionRow.{RevisionRow};
+ghost use Rattle.office_words.specs.Reads.{IsIssued};
 ghost use Rattle.office_policy.specs.History.{History};
 ghost use Rattle.office_policy.specs.Revisions.{issued_revision};
 ghost use Rattle.office_policy.specs.TablesOf.{tables_of};

@@ -5,12 +5,12 @@ ghost use Rattle.office_policy.specs.Judging.{IsJudged, IsPermitted, answer_in};
 
 use crate::change::Change;
 use crate::handler::Handler;
-use office_tables::UserRow;
-use review_policy::{Answer, Fault, Reply, Request};
+use office_words::{Fault, UserRow};
+use review_policy::{Answer, Reply, Request};
 use std::alloc::Global;
 
 /// What every rule of the policy allows, and is to be carried out.
-#[derive(Debug, Drop)]
+#[derive(Drop)]
 pub struct Allowed {
     /// Who asks for it.
     pub caller: UserRow,
@@ -21,7 +21,7 @@ pub struct Allowed {
 }
 
 /// What a request comes to, before anything is changed.
-#[derive(Debug, Drop)]
+#[derive(Drop)]
 pub enum Judgement {
     /// It changes nothing, and this is its answer.
     Answered(Answer),

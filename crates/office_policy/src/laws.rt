@@ -2,12 +2,12 @@
 //! nothing.
 
 ghost use Rattle.std.specs.Prelude.{◌≡◌, ◌≤◌, ◌↔◌, ◌∷◌, List, ℕ, Some};
-ghost use Rattle.review_policy.specs.declared.ask.ProfileName.{ProfileName};
+ghost use Rattle.office_words.specs.declared.name.ProfileName.{ProfileName};
 ghost use Rattle.review_policy.specs.declared.ask.Request.{Request};
-ghost use Rattle.review_policy.specs.Rules.{max_revisions};
-ghost use Rattle.office_tables.specs.declared.listed.Tally.{Tally};
-ghost use Rattle.office_tables.specs.declared.row.RevisionRow.{RevisionRow};
-ghost use Rattle.office_tables.specs.Lists.{IsTally};
+ghost use Rattle.office_words.specs.Limits.{max_revisions};
+ghost use Rattle.office_words.specs.declared.listed.Tally.{Tally};
+ghost use Rattle.office_words.specs.declared.row.RevisionRow.{RevisionRow};
+ghost use Rattle.office_words.specs.Lists.{IsTally};
 ghost use Rattle.review_sheet.specs.Sheet.{need_at as sheet_need};
 ghost use Rattle.office_policy.specs.History.{Event, History};
 ghost use Rattle.office_policy.specs.Revisions.{revision_of, revision_count};

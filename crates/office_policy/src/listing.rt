@@ -2,11 +2,11 @@
 //! nothing.
 
 ghost use Rattle.std.specs.Prelude.{◌≡◌, ◌<◌, ◌==◌, suc, List, ℕ, Some, None, find, AllPairs};
-ghost use Rattle.review_policy.specs.declared.ask.ProfileName.{ProfileName};
-ghost use Rattle.review_policy.specs.Rules.{max_revisions};
-ghost use Rattle.office_tables.specs.Lists.{AreRevisionsOf, AreBelow};
-ghost use Rattle.office_tables.specs.declared.listed.ListedRevision.{ListedRevision};
-ghost use Rattle.office_tables.specs.declared.row.RevisionRow.{RevisionRow};
+ghost use Rattle.office_words.specs.declared.name.ProfileName.{ProfileName};
+ghost use Rattle.office_words.specs.Limits.{max_revisions};
+ghost use Rattle.office_words.specs.Lists.{AreRevisionsOf, AreBelow};
+ghost use Rattle.office_words.specs.declared.listed.ListedRevision.{ListedRevision};
+ghost use Rattle.office_words.specs.declared.row.RevisionRow.{RevisionRow};
 ghost use Rattle.office_policy.specs.History.{History};
 ghost use Rattle.office_policy.specs.Lawful.{IsLawfulHistory};
 ghost use Rattle.office_policy.specs.Listing.{listing_of};

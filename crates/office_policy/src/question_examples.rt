@@ -7,8 +7,8 @@ ghost use Rattle.review_policy.specs.declared.act.ProfileView.TheVariants as vie
 ghost use Rattle.review_policy.specs.declared.ask.Ask.TheVariants as ask;
 ghost use Rattle.review_policy.specs.declared.answer.Reply.TheVariants as reply;
 ghost use Rattle.review_policy.specs.declared.denial.Rule.TheVariants as rule;
-ghost use Rattle.review_policy.specs.declared.revision.State.TheVariants.{Open, Closed, Issued};
-ghost use Rattle.review_policy.specs.declared.revision.State.TheVariants.{Replaced, Withdrawn};
+ghost use Rattle.office_words.specs.declared.revision.State.TheVariants.{Open, Closed, Issued};
+ghost use Rattle.office_words.specs.declared.revision.State.TheVariants.{Replaced, Withdrawn};
 ghost use Rattle.office_policy.specs.History.{submitted};
 ghost use Rattle.office_policy.specs.Newest.{newest_told};
 ghost use Rattle.office_policy.specs.Verdict.{accepted};

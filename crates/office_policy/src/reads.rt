@@ -2,11 +2,11 @@
 //! Each is a function without a parameter whose contract is the law; it does nothing.
 
 ghost use Rattle.std.specs.Prelude.{◌≡◌, ◌==◌, ◌↔◌, List, ℕ, Bool, true, not, Option};
-ghost use Rattle.review_policy.specs.declared.ask.ProfileName.{ProfileName};
-ghost use Rattle.office_tables.specs.declared.row.UserRow.{UserRow};
-ghost use Rattle.office_tables.specs.declared.row.RevisionRow.{RevisionRow};
-ghost use Rattle.office_tables.specs.Reads.{IsUserShowing, IsLast, HasRevision};
-ghost use Rattle.office_tables.specs.Lists.{IsAuthor};
+ghost use Rattle.office_words.specs.declared.name.ProfileName.{ProfileName};
+ghost use Rattle.office_words.specs.declared.row.UserRow.{UserRow};
+ghost use Rattle.office_words.specs.declared.row.RevisionRow.{RevisionRow};
+ghost use Rattle.office_words.specs.Reads.{IsUserShowing, IsLast, HasRevision};
+ghost use Rattle.office_words.specs.Lists.{IsAuthor};
 ghost use Rattle.office_policy.specs.History.{History};
 ghost use Rattle.office_policy.specs.Users.{user_showing};
 ghost use Rattle.office_policy.specs.Revisions.{last_revision, number_of, revision_count};

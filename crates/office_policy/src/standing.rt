@@ -3,9 +3,9 @@
 
 ghost use Rattle.std.specs.Prelude.{◌≡◌, AllPairs, List, ℕ};
 ghost use Rattle.std.specs.declared.cmp.Ordering.TheVariants.{Less};
-ghost use Rattle.review_policy.specs.declared.ask.ProfileName.{ProfileName};
-ghost use Rattle.review_policy.specs.declared.revision.VoteRow.{VoteRow};
-ghost use Rattle.office_tables.specs.Lists.{name_cmp, AreStanding};
+ghost use Rattle.office_words.specs.declared.name.ProfileName.{ProfileName};
+ghost use Rattle.office_words.specs.declared.revision.VoteRow.{VoteRow};
+ghost use Rattle.office_words.specs.Lists.{name_cmp, AreStanding};
 ghost use Rattle.office_policy.specs.History.{History};
 ghost use Rattle.office_policy.specs.Votes.{standing_votes};
 ghost use Rattle.office_policy.specs.TablesOf.{tables_of};

@@ -24,7 +24,7 @@ use Rattle.sqlite_trees.specs.Tree.{Trees}
 use Rattle.sqlite_trees.proofs.ListLemmas.{map-map, filter-map, IsPermutation-filter}
 use Rattle.office_rows.specs.Entries.{Keeps, row_of}
 use Rattle.office_rows.proofs.Plain.{plain_query, Means}
-use Rattle.review_policy.specs.declared.fault.Fault.{Fault}
+use Rattle.office_words.specs.declared.fault.Fault.{Fault}
 use Rattle.office_rows.specs.Faults.{FindsRow}
 use Rattle.office_rows.proofs.Finding.{finds}
 use Rattle.office_rows.proofs.Reading.{matched}

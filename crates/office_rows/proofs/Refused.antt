@@ -44,7 +44,7 @@ use Rattle.sqlite_typing.specs.Types.{accepts_terms}
 use Rattle.sqlite_trees.specs.Tree.{put_row}
 use Rattle.sqlite_value.proofs.OrderLemmas.{value_cmp_total}
 use Rattle.std.specs.List.{fold}
-use Rattle.review_policy.specs.declared.fault.Fault.TheVariants.{Disk}
+use Rattle.office_words.specs.declared.fault.Fault.TheVariants.{Disk}
 use Rattle.office_rows.specs.Entries.{row_of}
 use Rattle.office_rows.specs.Faults.{fault_of_error}
 use Rattle.office_rows.specs.Refusals.{LacksRowid}

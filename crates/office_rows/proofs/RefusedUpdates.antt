@@ -45,7 +45,7 @@ use Rattle.sqlite_trees.specs.Tree.{has_rowid, without_rowid}
 use Rattle.sqlite_trees.specs.View.{is_int}
 use Rattle.sqlite_trees.proofs.ListLemmas.{map-map, ascending-filter, ascending-map}
 use Rattle.sqlite_value.specs.Order.{value_cmp}
-use Rattle.review_policy.specs.declared.fault.Fault.TheVariants.{Disk}
+use Rattle.office_words.specs.declared.fault.Fault.TheVariants.{Disk}
 use Rattle.office_rows.specs.Entries.{Keeps as KeepsEntries, row_of}
 use Rattle.office_rows.specs.Faults.{fault_of_error}
 use Rattle.office_rows.specs.Refusals.{HasLongRowid}

@@ -45,7 +45,7 @@ use Rattle.sqlite_sql.specs.Ops.{fits_i64}
 use Rattle.sqlite_typing.specs.Types.{accepts_terms}
 use Rattle.sqlite_trees.specs.Tree.{has_rowid}
 use Rattle.sqlite_value.specs.Order.{value_cmp}
-use Rattle.review_policy.specs.declared.fault.Fault.TheVariants.{Disk}
+use Rattle.office_words.specs.declared.fault.Fault.TheVariants.{Disk}
 use Rattle.office_rows.specs.Entries.{Keeps, row_of, HaveOwnKeys}
 use Rattle.office_rows.specs.Faults.{fault_of_error}
 use Rattle.office_rows.specs.Refusals.{LacksRowid}

@@ -8,7 +8,7 @@ use Rattle.sqlite.specs.declared.error.Error.{Error}
 use Rattle.sqlite.specs.declared.error.Error.TheVariants as error
 use Rattle.sqlite.specs.State.{State, ExecutesInside, ExecutesIn, IsNotRun, IsUnchanged, RunsCommand, Fails, shows_rows}
 use Rattle.sqlite_resolve.specs.declared.compiled.Compiled.{Compiled}
-use Rattle.review_policy.specs.declared.fault.Fault.TheVariants.{NotAnOffice}
+use Rattle.office_words.specs.declared.fault.Fault.TheVariants.{NotAnOffice}
 use Rattle.office_rows.specs.Faults.{fault_of_error}
 use Rattle.office_rows.specs.Statements.{Statement, FailedIn}
 use Rattle.office_rows.proofs.Errors.{of_store}

@@ -21,8 +21,8 @@ use Rattle.sqlite_sql.proofs.QueryLemmas.{no_fold_overflows}
 use Rattle.sqlite_typing.specs.Types.{accepts_program}
 use Rattle.sqlite_resolve.specs.declared.compiled.Compiled.{Compiled}
 use Rattle.sqlite_resolve.specs.declared.error.CompileError.{CompileError}
-use Rattle.review_policy.specs.declared.fault.Fault.{Fault}
-use Rattle.review_policy.specs.declared.fault.Fault.TheVariants as stores
+use Rattle.office_words.specs.declared.fault.Fault.{Fault}
+use Rattle.office_words.specs.declared.fault.Fault.TheVariants as stores
 use Rattle.office_rows.specs.Faults.{fault_of_error, FindsRow}
 use Rattle.office_rows.specs.Rows.{IsFaultOf}
 use Rattle.office_rows.specs.Causes.{HasFailed}

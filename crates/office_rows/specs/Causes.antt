@@ -2,8 +2,8 @@
 use Rattle.std.specs.Prelude.{◌≡◌, ◌⊎◌, false}
 use Rattle.sqlite.specs.State.{State}
 use Rattle.sqlite_disk.specs.Disk.{MoreFaults}
-use Rattle.review_policy.specs.declared.fault.Fault.{Fault}
-use Rattle.review_policy.specs.declared.fault.Fault.TheVariants.{NoMemory, Disk, Full, NotAnOffice}
+use Rattle.office_words.specs.declared.fault.Fault.{Fault}
+use Rattle.office_words.specs.declared.fault.Fault.TheVariants.{NoMemory, Disk, Full, NotAnOffice}
 
 -- There was no memory, or between the two the disk failed or refused a call. `Disk` is also the
 -- fault of each call over a connection that was shut. None is for the form of the tables.

@@ -2,8 +2,8 @@
 
 ghost use Rattle.std.specs.Prelude.{◌≡◌, ◌∷◌, [], map, replicate, ℕ};
 ghost use Rattle.office_rows.specs.Faults.{fault_of_error};
-ghost use Rattle.review_policy.specs.declared.fault.Fault.TheVariants.{Disk};
-ghost use Rattle.review_policy.specs.declared.fault.Fault.TheVariants.{Full, NotAnOffice};
+ghost use Rattle.office_words.specs.declared.fault.Fault.TheVariants.{Disk};
+ghost use Rattle.office_words.specs.declared.fault.Fault.TheVariants.{Full, NotAnOffice};
 ghost use Rattle.sqlite.specs.declared.error.Error.TheVariants as error;
 ghost use Rattle.sqlite.specs.declared.error.ErrorCode.TheVariants as code;
 ghost use Rattle.sqlite.specs.declared.types.Type.{«Type» as SqlType};
@@ -12,7 +12,7 @@ ghost use Rattle.sqlite_schema.specs.declared.schema.Constraint.{Constraint};
 ghost use Rattle.no_memory.specs.Witness.{witness};
 
 use no_memory::NoMemory;
-use review_policy::Fault;
+use office_words::Fault;
 use sqlite::{Error, ErrorCode};
 
 /// The fault of a store that an error of `sqlite` is. A text that isn't understood and a value of

@@ -8,7 +8,7 @@ ghost use Rattle.office_rows.specs.Faults.{FindsRow};
 ghost use Rattle.office_rows.specs.Told.{IsTold, TellsWhether};
 
 use crate::fault::fault_of_error;
-use review_policy::Fault;
+use office_words::Fault;
 use sqlite::types::ValueRef;
 use sqlite::{Alter, Connection, Error, Row};
 

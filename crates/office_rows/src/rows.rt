@@ -7,7 +7,7 @@ ghost use Rattle.sqlite.specs.Values.{bound};
 ghost use Rattle.office_rows.specs.Rows.{IsFaultOf};
 
 use crate::fault::fault_of_error;
-use review_policy::Fault;
+use office_words::Fault;
 use sqlite::types::ValueRef;
 use sqlite::{Alter, Connection, Row};
 

@@ -17,12 +17,12 @@ use Rattle.sqlite_value.specs.Keys.{ascending, collated_cmp}
 use Rattle.sqlite_trees.proofs.ListLemmas.{map-map, ascending_weaker, ascending-map, all-map, all_weaker}
 use Rattle.sqlite_rules.specs.Lists.{Has}
 use Rattle.sqlite_rules.proofs.ListLemmas.{all_has, has_filtered, has_kept, has_contained, contains_had}
-use Rattle.review_policy.specs.Words.{is_word}
-use Rattle.review_policy.specs.declared.ask.ProfileName.{ProfileName}
-use Rattle.office_tables.specs.declared.row.RevisionRow.{RevisionRow}
-use Rattle.review_policy.specs.declared.fault.Fault.{Fault}
-use Rattle.office_tables.specs.Tables.{Tables, is_profile}
-use Rattle.office_tables.specs.Lists.{name_cmp, IsAuthor, AreAuthors}
+use Rattle.office_words.specs.Words.{is_word}
+use Rattle.office_words.specs.declared.name.ProfileName.{ProfileName}
+use Rattle.office_words.specs.declared.row.RevisionRow.{RevisionRow}
+use Rattle.office_words.specs.declared.fault.Fault.{Fault}
+use Rattle.office_words.specs.Tables.{Tables, is_profile}
+use Rattle.office_words.specs.Lists.{name_cmp, IsAuthor, AreAuthors}
 use Rattle.office_rows.specs.Entries.{row_of}
 use Rattle.office_rows.specs.Faults.{FindsRow}
 use Rattle.office_rows.proofs.Rowids.{has_mapped, mapped_has}

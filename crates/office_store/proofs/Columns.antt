@@ -21,7 +21,7 @@ use Rattle.sqlite_sql.specs.declared.ops.CompareOp.TheVariants.{Eq}
 use Rattle.sqlite.specs.Collation.TheVariants.{Binary}
 use Rattle.sqlite_value.specs.Order.{value_cmp}
 use Rattle.sqlite_value.proofs.OrderLemmas.{value_cmp-Int, value_cmp-Text, value_cmp-Blob}
-use Rattle.review_policy.specs.Words.{is_word, is_word_byte}
+use Rattle.office_words.specs.Words.{is_word, is_word_byte}
 use Rattle.office_rows.proofs.Plain.{from_test}
 
 -- a column of the table's row is a parameter

@@ -6,7 +6,7 @@ use Rattle.sqlite.specs.Effect.{Database}
 use Rattle.sqlite.specs.State.{State, Survives}
 use Rattle.sqlite.specs.Tree.{Trees}
 use Rattle.sqlite.specs.Held.{Held, state}
-use Rattle.office_tables.specs.Tables.{Tables}
+use Rattle.office_words.specs.Tables.{Tables}
 use Rattle.office_rows.specs.Faults.{IsOfMachine}
 use Rattle.office_rows.specs.Statements.{Statement, RanAll, FailedIn}
 use Rattle.office_rows.proofs.Errors.{of_store}

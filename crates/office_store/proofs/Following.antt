@@ -4,8 +4,8 @@ use Rattle.std.specs.Prelude.{◌&&◌, nat_le, length}
 use Rattle.std.specs.List.{list_all}
 use Rattle.std.specs.Ordering.{nat_cmp, ordering_then}
 use Rattle.std.proofs.lemmas.Bool.Decides.{nat_tests}
-use Rattle.review_policy.specs.Words.{is_word, is_word_byte}
-use Rattle.office_tables.specs.Lists.{name_cmp}
+use Rattle.office_words.specs.Words.{is_word, is_word_byte}
+use Rattle.office_words.specs.Lists.{name_cmp}
 use Rattle.office_store.proofs.Columns.{both_true}
 
 byte_above : (b : ℕ) → is_word_byte b ≡ true → 32 < b

@@ -3,10 +3,10 @@ use Rattle.std.proofs.Common.{◌≡◌, ℕ, List, Bool, Option, refl, ◌∙�
 use Rattle.std.specs.Prelude.{find, option_map, is_some, bytes_eq}
 use Rattle.sqlite.specs.Order.{Row}
 use Rattle.sqlite.specs.Effect.{Database}
-use Rattle.review_policy.specs.declared.ask.ProfileName.{ProfileName}
-use Rattle.office_tables.specs.declared.row.UserRow.{UserRow}
-use Rattle.office_tables.specs.declared.row.RevisionRow.{RevisionRow}
-use Rattle.office_tables.specs.Tables.{Tables, Vote, Baseline, is_profile}
+use Rattle.office_words.specs.declared.name.ProfileName.{ProfileName}
+use Rattle.office_words.specs.declared.row.UserRow.{UserRow}
+use Rattle.office_words.specs.declared.row.RevisionRow.{RevisionRow}
+use Rattle.office_words.specs.Tables.{Tables, Vote, Baseline, is_profile}
 use Rattle.office_rows.specs.Entries.{Stores}
 use Rattle.office_rows.proofs.Writing.{IsTableOf, WritesIn}
 use Rattle.office_store.specs.Schema.{office_schema, users_table, revisions_table, votes_table, baselines_table, holds_table}

@@ -17,9 +17,9 @@ use Rattle.sqlite_value.proofs.OrderLemmas.{value_cmp-Text, then-Equal}
 use Rattle.sqlite_trees.specs.Tree.{IsAscending}
 use Rattle.sqlite_trees.proofs.ListLemmas.{ascending-get_or}
 use Rattle.sqlite_rules.specs.Lists.{Has}
-use Rattle.office_tables.specs.Tables.{Tables}
-use Rattle.office_tables.specs.Lists.{name_cmp}
-use Rattle.review_policy.specs.declared.fault.Fault.{Fault}
+use Rattle.office_words.specs.Tables.{Tables}
+use Rattle.office_words.specs.Lists.{name_cmp}
+use Rattle.office_words.specs.declared.fault.Fault.{Fault}
 use Rattle.office_rows.specs.Entries.{HaveOwnKeys}
 use Rattle.office_rows.proofs.Plain.{Means}
 use Rattle.office_rows.proofs.Asked.{shown_answer}

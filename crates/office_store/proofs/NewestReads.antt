@@ -26,12 +26,12 @@ use Rattle.sqlite_value.proofs.OrderLemmas.{value_cmp-Int, then-Equal}
 use Rattle.sqlite_trees.proofs.ListLemmas.{map-map, ascending_weaker, ascending-map, all-map}
 use Rattle.sqlite_rules.specs.Lists.{Has}
 use Rattle.sqlite_rules.proofs.ListLemmas.{all_has, all_from, has_filtered, has_kept, has_contained, contains_had}
-use Rattle.review_policy.specs.declared.answer.ProfileRevision.{ProfileRevision}
-use Rattle.review_policy.specs.declared.ask.ProfileName.{ProfileName}
-use Rattle.office_tables.specs.declared.row.RevisionRow.{RevisionRow}
-use Rattle.review_policy.specs.declared.fault.Fault.{Fault}
-use Rattle.office_tables.specs.Tables.{Tables, is_profile}
-use Rattle.office_tables.specs.Lists.{told_revision, AreNewest}
+use Rattle.office_words.specs.declared.listed.ProfileRevision.{ProfileRevision}
+use Rattle.office_words.specs.declared.name.ProfileName.{ProfileName}
+use Rattle.office_words.specs.declared.row.RevisionRow.{RevisionRow}
+use Rattle.office_words.specs.declared.fault.Fault.{Fault}
+use Rattle.office_words.specs.Tables.{Tables, is_profile}
+use Rattle.office_words.specs.Lists.{told_revision, AreNewest}
 use Rattle.office_rows.specs.Entries.{row_of}
 use Rattle.office_rows.proofs.Rowids.{has_mapped, mapped_has, has_permuted}
 use Rattle.office_rows.proofs.Plain.{Means, from_test}

@@ -14,9 +14,9 @@ use Rattle.sqlite.specs.Source.TheVariants.{Values}
 use Rattle.sqlite.specs.Held.{state}
 use Rattle.sqlite_tied.specs.Compute.{everything}
 use Rattle.sqlite.specs.Listing.{understood}
-use Rattle.review_policy.specs.declared.ask.ProfileName.{ProfileName}
-use Rattle.office_tables.specs.Tables.{Tables, Vote, Baseline, is_profile}
-use Rattle.office_tables.specs.Changes.{with_vote, with_baseline, with_hold, without_hold}
+use Rattle.office_words.specs.declared.name.ProfileName.{ProfileName}
+use Rattle.office_words.specs.Tables.{Tables, Vote, Baseline, is_profile}
+use Rattle.office_words.specs.Changes.{with_vote, with_baseline, with_hold, without_hold}
 use Rattle.office_rows.specs.Entries.{row_of}
 use Rattle.office_rows.specs.Statements.{Statement}
 use Rattle.office_rows.proofs.Plain.{plain_query, Means}

@@ -11,10 +11,10 @@ use Rattle.sqlite.specs.Term.{Term, lit, col, op2, holds}
 use Rattle.sqlite.specs.Collation.TheVariants.{Binary}
 use Rattle.sqlite_sql.specs.declared.ops.BinaryOp.TheVariants.{Compare}
 use Rattle.sqlite_sql.specs.declared.ops.CompareOp.TheVariants.{Eq}
-use Rattle.review_policy.specs.declared.ask.ProfileName.{ProfileName}
-use Rattle.review_policy.specs.declared.revision.State.{State}
-use Rattle.review_policy.specs.declared.revision.State.TheVariants.{Open, Closed, Issued, Replaced, Withdrawn}
-use Rattle.office_tables.specs.Tables.{is_profile}
+use Rattle.office_words.specs.declared.name.ProfileName.{ProfileName}
+use Rattle.office_words.specs.declared.revision.State.{State}
+use Rattle.office_words.specs.declared.revision.State.TheVariants.{Open, Closed, Issued, Replaced, Withdrawn}
+use Rattle.office_words.specs.Tables.{is_profile}
 use Rattle.office_rows.specs.Entries.{row_of}
 use Rattle.office_store.specs.Entries.{same_revision, same_vote, VoteKey, Revision, revision_key, revision_row, state_number, hold_row}
 use Rattle.office_store.specs.Keys.{profile_params, revision_params}

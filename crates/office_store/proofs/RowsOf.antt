@@ -5,7 +5,7 @@ use Rattle.std.specs.List.{AllByRecursion}
 use Rattle.sqlite.specs.Order.{Row}
 use Rattle.sqlite_rules.specs.Lists.{Has}
 use Rattle.sqlite_rules.proofs.ListLemmas.{all_has}
-use Rattle.review_policy.specs.declared.fault.Fault.{Fault}
+use Rattle.office_words.specs.declared.fault.Fault.{Fault}
 use Rattle.office_rows.specs.Entries.{Stores}
 use Rattle.office_rows.proofs.Stored.{find_own, find_none}
 use Rattle.office_rows.proofs.Finding.{IsFound}

@@ -4,19 +4,19 @@ use Rattle.std.specs.List.{AllByRecursion}
 use Rattle.std.proofs.lemmas.List.{take_more, take_all, map-append}
 use Rattle.sqlite.specs.Order.{Row}
 use Rattle.sqlite.specs.State.{State, Shown}
-use Rattle.review_policy.specs.declared.fault.Fault.{Fault}
-use Rattle.review_policy.specs.declared.fault.Fault.TheVariants.{NotAnOffice}
+use Rattle.office_words.specs.declared.fault.Fault.{Fault}
+use Rattle.office_words.specs.declared.fault.Fault.TheVariants.{NotAnOffice}
 use Rattle.office_rows.specs.Rows.{IsFaultOf}
 use Rattle.office_rows.specs.Told.{IsOfRow, IsUnread, IsTold, TellsAll, FindsRows, map_ok}
-use Rattle.office_tables.specs.declared.listed.ListedRevision.{ListedRevision}
-use Rattle.review_policy.specs.declared.answer.ProfileRevision.{ProfileRevision}
+use Rattle.office_words.specs.declared.listed.ListedRevision.{ListedRevision}
+use Rattle.office_words.specs.declared.listed.ProfileRevision.{ProfileRevision}
 use Rattle.office_store.specs.Entries.{state_number, bit}
-use Rattle.review_policy.specs.Role.{has_role}
-use Rattle.review_policy.specs.declared.role.Role.TheVariants.{Reviewer, Security}
-use Rattle.review_policy.specs.declared.revision.VoteRow.{VoteRow}
-use Rattle.office_tables.specs.declared.listed.Tally.{Tally}
-use Rattle.office_tables.specs.declared.row.UserRow.{UserRow}
-use Rattle.office_tables.specs.Lists.{holds_role, tally_of}
+use Rattle.office_words.specs.Role.{has_role}
+use Rattle.office_words.specs.declared.role.Role.TheVariants.{Reviewer, Security}
+use Rattle.office_words.specs.declared.revision.VoteRow.{VoteRow}
+use Rattle.office_words.specs.declared.listed.Tally.{Tally}
+use Rattle.office_words.specs.declared.row.UserRow.{UserRow}
+use Rattle.office_words.specs.Lists.{holds_role, tally_of}
 use Rattle.office_store.specs.declared.numbers.Numbered.{Numbered}
 use Rattle.office_store.specs.Numbered.{numbered_row}
 use Rattle.office_store.specs.Lists.{number_row, name_row, listed_row, told_row, Cast, roles_of, cast_row, standing_of, IsCastForm, IsCastAs, AreCastAs, TellsVotes, TellsTally}

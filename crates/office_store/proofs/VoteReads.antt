@@ -24,12 +24,12 @@ use Rattle.sqlite_trees.specs.Tree.{Trees}
 use Rattle.sqlite_trees.proofs.ListLemmas.{map-map, flat_map-map, flat_map_same_on, ascending_weaker, ascending-map, ascending_from_map, all-map}
 use Rattle.sqlite_rules.specs.Lists.{Has}
 use Rattle.sqlite_rules.proofs.ListLemmas.{all_has, all_from, has_filtered, has_kept, has_found, has_contained, contains_had}
-use Rattle.review_policy.specs.declared.ask.ProfileName.{ProfileName}
-use Rattle.review_policy.specs.declared.revision.VoteRow.{VoteRow}
-use Rattle.office_tables.specs.declared.row.UserRow.{UserRow}
-use Rattle.review_policy.specs.declared.fault.Fault.{Fault}
-use Rattle.office_tables.specs.Tables.{Tables, is_profile}
-use Rattle.office_tables.specs.Lists.{name_cmp, standing_vote, IsStanding, AreStanding}
+use Rattle.office_words.specs.declared.name.ProfileName.{ProfileName}
+use Rattle.office_words.specs.declared.revision.VoteRow.{VoteRow}
+use Rattle.office_words.specs.declared.row.UserRow.{UserRow}
+use Rattle.office_words.specs.declared.fault.Fault.{Fault}
+use Rattle.office_words.specs.Tables.{Tables, is_profile}
+use Rattle.office_words.specs.Lists.{name_cmp, standing_vote, IsStanding, AreStanding}
 use Rattle.office_rows.specs.Entries.{HaveOwnKeys, row_of}
 use Rattle.office_rows.proofs.Rowids.{has_mapped, mapped_has, has_permuted}
 use Rattle.office_rows.proofs.Plain.{Means}

@@ -22,11 +22,11 @@ use Rattle.sqlite_value.specs.Order.{value_cmp}
 use Rattle.sqlite_value.proofs.OrderLemmas.{value_cmp-Text}
 use Rattle.sqlite_rules.specs.Lists.{Has}
 use Rattle.sqlite_rules.proofs.ListLemmas.{all_has}
-use Rattle.review_policy.specs.Words.{is_word}
-use Rattle.office_tables.specs.declared.listed.ListedRevision.{ListedRevision}
-use Rattle.review_policy.specs.declared.fault.Fault.{Fault}
-use Rattle.office_tables.specs.Tables.{Tables}
-use Rattle.office_tables.specs.Lists.{name_cmp, IsListed}
+use Rattle.office_words.specs.Words.{is_word}
+use Rattle.office_words.specs.declared.listed.ListedRevision.{ListedRevision}
+use Rattle.office_words.specs.declared.fault.Fault.{Fault}
+use Rattle.office_words.specs.Tables.{Tables}
+use Rattle.office_words.specs.Lists.{name_cmp, IsListed}
 use Rattle.office_rows.specs.Entries.{row_of}
 use Rattle.office_rows.specs.Faults.{FindsRow}
 use Rattle.office_rows.proofs.Plain.{Means, from_test}

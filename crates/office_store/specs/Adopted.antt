@@ -1,7 +1,7 @@
 -- The baseline that an answer stands for, and its row.
 use Rattle.std.specs.Prelude.{ℕ, List}
 use Rattle.sqlite.specs.Order.{Row}
-use Rattle.office_tables.specs.Tables.{Baseline}
+use Rattle.office_words.specs.Tables.{Baseline}
 use Rattle.office_store.specs.declared.baselines.Adopted.{Adopted}
 use Rattle.office_store.specs.Entries.{adopted_row, IsBaseline}
 

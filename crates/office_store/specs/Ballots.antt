@@ -1,6 +1,6 @@
 -- The vote that an answer stands for, and its row.
 use Rattle.sqlite.specs.Order.{Row}
-use Rattle.office_tables.specs.Tables.{Vote}
+use Rattle.office_words.specs.Tables.{Vote}
 use Rattle.office_store.specs.declared.votes.Ballot.{Ballot}
 use Rattle.office_store.specs.Entries.{voted_row}
 

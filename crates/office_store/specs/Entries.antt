@@ -3,14 +3,14 @@ use Rattle.std.specs.Prelude.{◌≡◌, ◌<◌, ◌^◌, ◌==◌, ◌&&◌, �
 use Rattle.std.specs.Prelude.{length, bytes_eq, if◌then◌else◌, IsUtf8}
 use Rattle.sqlite.specs.declared.types.Value.TheVariants.{Int, Text, Blob}
 use Rattle.sqlite.specs.Order.{Row}
-use Rattle.review_policy.specs.Words.{is_word}
-use Rattle.review_policy.specs.declared.ask.ProfileName.{ProfileName}
-use Rattle.review_policy.specs.declared.revision.State.{State}
-use Rattle.review_policy.specs.declared.revision.State.TheVariants.{Open, Closed, Issued, Replaced}
-use Rattle.review_policy.specs.declared.revision.State.TheVariants.{Withdrawn}
-use Rattle.office_tables.specs.declared.row.UserRow.{UserRow}
-use Rattle.office_tables.specs.declared.row.RevisionRow.{RevisionRow}
-use Rattle.office_tables.specs.Tables.{Vote, Baseline, is_profile}
+use Rattle.office_words.specs.Words.{is_word}
+use Rattle.office_words.specs.declared.name.ProfileName.{ProfileName}
+use Rattle.office_words.specs.declared.revision.State.{State}
+use Rattle.office_words.specs.declared.revision.State.TheVariants.{Open, Closed, Issued, Replaced}
+use Rattle.office_words.specs.declared.revision.State.TheVariants.{Withdrawn}
+use Rattle.office_words.specs.declared.row.UserRow.{UserRow}
+use Rattle.office_words.specs.declared.row.RevisionRow.{RevisionRow}
+use Rattle.office_words.specs.Tables.{Vote, Baseline, is_profile}
 
 -- ---- users, by name
 

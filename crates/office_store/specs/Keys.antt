@@ -2,7 +2,7 @@
 use Rattle.std.specs.Prelude.{ℕ, pos, List, [], ◌∷◌}
 use Rattle.sqlite.specs.declared.types.Value.TheVariants.{Int, Text}
 use Rattle.sqlite.specs.Order.{Row}
-use Rattle.review_policy.specs.declared.ask.ProfileName.{ProfileName}
+use Rattle.office_words.specs.declared.name.ProfileName.{ProfileName}
 
 abbrev pub profile_params : ProfileName → Row
 profile_params p = Text p.team ∷ Text p.profile ∷ []

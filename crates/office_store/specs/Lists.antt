@@ -5,18 +5,18 @@ use Rattle.std.specs.List.{AllByRecursion}
 use Rattle.std.specs.declared.cmp.Ordering.TheVariants.{Less}
 use Rattle.sqlite.specs.declared.types.Value.TheVariants.{Int, Text, Blob}
 use Rattle.sqlite.specs.Order.{Row}
-use Rattle.review_policy.specs.Rules.{max_listed}
-use Rattle.review_policy.specs.Words.{is_word}
-use Rattle.review_policy.specs.declared.answer.ProfileRevision.{ProfileRevision}
-use Rattle.review_policy.specs.declared.ask.ProfileName.{ProfileName}
-use Rattle.review_policy.specs.declared.revision.VoteRow.{VoteRow}
-use Rattle.office_tables.specs.declared.row.UserRow.{UserRow}
-use Rattle.office_tables.specs.declared.row.RevisionRow.{RevisionRow}
-use Rattle.office_tables.specs.declared.listed.ListedRevision.{ListedRevision}
-use Rattle.office_tables.specs.Tables.{Tables, Vote}
-use Rattle.office_tables.specs.Lists.{IsListed, AreStanding, name_cmp, standing_vote, tally_of}
-use Rattle.review_policy.specs.declared.fault.Fault.{Fault}
-use Rattle.office_tables.specs.declared.listed.Tally.{Tally}
+use Rattle.office_words.specs.Limits.{max_listed}
+use Rattle.office_words.specs.Words.{is_word}
+use Rattle.office_words.specs.declared.listed.ProfileRevision.{ProfileRevision}
+use Rattle.office_words.specs.declared.name.ProfileName.{ProfileName}
+use Rattle.office_words.specs.declared.revision.VoteRow.{VoteRow}
+use Rattle.office_words.specs.declared.row.UserRow.{UserRow}
+use Rattle.office_words.specs.declared.row.RevisionRow.{RevisionRow}
+use Rattle.office_words.specs.declared.listed.ListedRevision.{ListedRevision}
+use Rattle.office_words.specs.Tables.{Tables, Vote}
+use Rattle.office_words.specs.Lists.{IsListed, AreStanding, name_cmp, standing_vote, tally_of}
+use Rattle.office_words.specs.declared.fault.Fault.{Fault}
+use Rattle.office_words.specs.declared.listed.Tally.{Tally}
 use Rattle.office_rows.specs.Told.{IsUnread}
 use Rattle.office_store.specs.Entries.{state_number, bit}
 

@@ -8,15 +8,15 @@ use Rattle.sqlite.specs.Order.{Row}
 use Rattle.sqlite.specs.State.{ExecutesInside}
 use Rattle.sqlite.specs.Store.{Ghosts}
 use Rattle.sqlite_rules.specs.Lists.{Has}
-use Rattle.review_policy.specs.declared.ask.ProfileName.{ProfileName}
-use Rattle.review_policy.specs.declared.fault.Fault.{Fault}
-use Rattle.review_policy.specs.declared.fault.Fault.TheVariants.{NoMemory, Disk, Full, NotAnOffice}
-use Rattle.office_tables.specs.declared.row.UserRow.{UserRow}
-use Rattle.office_tables.specs.declared.row.RevisionRow.{RevisionRow}
-use Rattle.office_tables.specs.Tables.{Tables}
-use Rattle.office_tables.specs.Changes.{with_user, with_issued, with_withdrawn, with_vote}
-use Rattle.office_tables.specs.Changes.{with_baseline, with_hold, without_hold}
-use Rattle.office_tables.specs.Reads.{Adds}
+use Rattle.office_words.specs.declared.name.ProfileName.{ProfileName}
+use Rattle.office_words.specs.declared.fault.Fault.{Fault}
+use Rattle.office_words.specs.declared.fault.Fault.TheVariants.{NoMemory, Disk, Full, NotAnOffice}
+use Rattle.office_words.specs.declared.row.UserRow.{UserRow}
+use Rattle.office_words.specs.declared.row.RevisionRow.{RevisionRow}
+use Rattle.office_words.specs.Tables.{Tables}
+use Rattle.office_words.specs.Changes.{with_user, with_issued, with_withdrawn, with_vote}
+use Rattle.office_words.specs.Changes.{with_baseline, with_hold, without_hold}
+use Rattle.office_words.specs.Reads.{Adds}
 use Rattle.office_rows.specs.Faults.{fault_of_error}
 use Rattle.office_rows.specs.Refusals.{HasLongRowid, IsBig, LacksRowid}
 use Rattle.office_rows.specs.Statements.{Statement, begun, IsCause, IsRefused}

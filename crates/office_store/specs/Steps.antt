@@ -5,7 +5,7 @@ use Rattle.sqlite.specs.Order.{Row}
 use Rattle.sqlite.specs.Store.{Ghosts}
 use Rattle.sqlite.specs.State.{Executes, ExecutesInside}
 use Rattle.sqlite.specs.Held.{Held, state}
-use Rattle.office_tables.specs.Tables.{Tables}
+use Rattle.office_words.specs.Tables.{Tables}
 use Rattle.office_rows.specs.Faults.{IsOfMachine}
 use Rattle.office_rows.specs.Statements.{Statement}
 use Rattle.office_store.specs.Shown.{IsOffice}

@@ -1,8 +1,8 @@
 -- The statements of each write.
 use Rattle.std.specs.Prelude.{ℕ, List, [], ◌∷◌}
-use Rattle.review_policy.specs.declared.ask.ProfileName.{ProfileName}
-use Rattle.office_tables.specs.declared.row.UserRow.{UserRow}
-use Rattle.office_tables.specs.declared.row.RevisionRow.{RevisionRow}
+use Rattle.office_words.specs.declared.name.ProfileName.{ProfileName}
+use Rattle.office_words.specs.declared.row.UserRow.{UserRow}
+use Rattle.office_words.specs.declared.row.RevisionRow.{RevisionRow}
 use Rattle.office_rows.specs.Statements.{Statement}
 use Rattle.office_store.specs.declared.users.TheConstants.{PUT_USER}
 use Rattle.office_store.specs.declared.revisions.TheConstants.{CLOSE_OPEN, INSERT_REVISION}

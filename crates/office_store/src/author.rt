@@ -3,7 +3,7 @@
 ghost use Rattle.std.specs.Prelude.{◌≡◌, ◌↔◌, true};
 ghost use Rattle.sqlite.specs.Held.{state};
 ghost use Rattle.office_rows.specs.Told.{TellsAll, TellsWhether, map_ok};
-ghost use Rattle.office_tables.specs.Lists.{IsAuthor, AreAuthors};
+ghost use Rattle.office_words.specs.Lists.{IsAuthor, AreAuthors};
 ghost use Rattle.office_store.specs.Connections.{Reads, ReadsAll, ReadsFirst};
 ghost use Rattle.office_store.specs.Keys.{author_params, profile_params};
 ghost use Rattle.office_store.specs.Lists.{name_row, IsWord};
@@ -13,7 +13,7 @@ use crate::bind::{of_author, of_profile};
 use crate::column::word_at;
 use crate::finding::{find_all, finds_any};
 use crate::from_row::FromRow;
-use review_policy::{Fault, ProfileName, Word};
+use office_words::{Fault, ProfileName, Word};
 use sqlite::{Alter, Connection, Row};
 use std::alloc::Global;
 

@@ -4,7 +4,7 @@ ghost use Rattle.std.specs.Prelude.{◌≡◌, [], ◌∷◌, option_map};
 ghost use Rattle.sqlite.specs.Held.{state};
 ghost use Rattle.sqlite.specs.declared.types.Value.TheVariants.{Text as SqlText};
 ghost use Rattle.office_rows.specs.Told.{TellsOne};
-ghost use Rattle.office_tables.specs.Changes.{with_baseline};
+ghost use Rattle.office_words.specs.Changes.{with_baseline};
 ghost use Rattle.office_store.specs.Connections.{MeetsOnErr, Reads, ReadsFirst, Writes};
 ghost use Rattle.office_store.specs.Adopted.{baseline_of, row_of_adopted, IsAdopted};
 ghost use Rattle.office_store.specs.Calls.{Into};
@@ -16,7 +16,7 @@ use crate::column::{number_at, word_at};
 use crate::finding::find;
 use crate::from_row::FromRow;
 use crate::write::write_one;
-use review_policy::{Fault, ProfileName, Word};
+use office_words::{Fault, ProfileName, Word};
 use sqlite::{Alter, Connection, Row};
 use std::alloc::Global;
 
@@ -26,7 +26,7 @@ pub(crate) const PUT_BASELINE: &str =
     "INSERT INTO baselines (team, profile, number) VALUES (?1, ?2, ?3) ON CONFLICT (team) DO UPDATE SET profile = ?2, number = ?3";
 
 /// The revision that a team last adopted.
-#[derive(Debug, Drop)]
+#[derive(Drop)]
 pub struct Adopted {
     /// The name of its profile, which is of the team.
     pub profile: Word,

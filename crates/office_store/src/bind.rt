@@ -3,7 +3,7 @@
 ghost use Rattle.std.specs.Prelude.{◌≡◌, true, [], ◌∷◌};
 ghost use Rattle.sqlite.specs.declared.types.Value.TheVariants.{Text as SqlText, Blob};
 ghost use Rattle.sqlite.specs.Values.{bound};
-ghost use Rattle.review_policy.specs.Words.{is_word};
+ghost use Rattle.office_words.specs.Words.{is_word};
 ghost use Rattle.office_store.specs.Entries.{user_row, IsUser, IsProfileName, state_number};
 ghost use Rattle.office_store.specs.Entries.{revision_row, IsRevision, vote_entry, vote_row};
 ghost use Rattle.office_store.specs.Entries.{IsVote, baseline_entry, baseline_row, IsBaseline};
@@ -12,8 +12,7 @@ ghost use Rattle.office_store.specs.Keys.{vote_params};
 
 use crate::column::bytes_of;
 use crate::votes::Ballot;
-use office_tables::{RevisionRow, UserRow};
-use review_policy::{ProfileName, State, Word};
+use office_words::{ProfileName, RevisionRow, State, UserRow, Word};
 use sqlite::types::{ToSql, ValueRef};
 
 /// A word.

@@ -2,7 +2,7 @@
 
 ghost use Rattle.sqlite.specs.Held.{state};
 ghost use Rattle.office_rows.specs.Told.{TellsOne};
-ghost use Rattle.office_tables.specs.Reads.{IsIssued};
+ghost use Rattle.office_words.specs.Reads.{IsIssued};
 ghost use Rattle.office_store.specs.Briefs.{brief_row, IsBrief, IsBriefOf};
 ghost use Rattle.office_store.specs.Connections.{Reads, ReadsFirst};
 ghost use Rattle.office_store.specs.Keys.{profile_params};
@@ -12,14 +12,14 @@ use crate::bind::of_profile;
 use crate::column::{digest_at, number_at};
 use crate::finding::find;
 use crate::from_row::FromRow;
-use review_policy::{Fault, ProfileName};
+use office_words::{Fault, ProfileName};
 use sqlite::{Alter, Connection, Row};
 
 pub(crate) const ISSUED_BRIEF: &str =
     "SELECT number, digest FROM revisions WHERE team = ?1 AND profile = ?2 AND state = 2";
 
 /// What names a revision of a profile and its text.
-#[derive(Clone, Copy, Debug, PartialEq, Eq)]
+#[derive(Clone, Copy)]
 pub struct Brief {
     /// Its number, from 1.
     pub number: u32,

@@ -6,13 +6,13 @@ ghost use Rattle.std.specs.Prelude.{string_bytes};
 ghost use Rattle.std.specs.Prelude.{Err, IfOk, IfErr, IsUtf8};
 ghost use Rattle.sqlite.specs.declared.types.Value.TheVariants.{Int, Text as SqlText, Blob};
 ghost use Rattle.sqlite_value.specs.Order.{column};
-ghost use Rattle.review_policy.specs.Words.{is_word};
-ghost use Rattle.review_policy.specs.declared.revision.State.{State as StateValue};
+ghost use Rattle.office_words.specs.Words.{is_word};
+ghost use Rattle.office_words.specs.declared.revision.State.{State as StateValue};
 ghost use Rattle.office_rows.specs.Told.{IsOfRow};
 ghost use Rattle.office_store.specs.Entries.{bit, state_number};
 
 use office_rows::fault_of_error;
-use review_policy::{Fault, Roles, State, Text, Word, WordFault};
+use office_words::{Fault, Roles, State, Text, Word, WordFault};
 use sqlite::Row;
 use std::alloc::Global;
 

@@ -9,7 +9,7 @@ ghost use Rattle.office_store.specs.Connections.{ReadsAll, ReadsFirst};
 
 use crate::from_row::{FromRow, read_all, read_first};
 use office_rows::{all_rows, first_row, is_there};
-use review_policy::Fault;
+use office_words::Fault;
 use sqlite::types::ValueRef;
 use sqlite::{Alter, Connection};
 use std::alloc::Global;

@@ -6,7 +6,7 @@ ghost use Rattle.sqlite.specs.Order.{Row as Columns};
 ghost use Rattle.office_rows.specs.Told.{IsOfRow, IsTold, TellsOne, TellsAll, map_ok};
 ghost use Rattle.office_store.specs.Connections.{AcceptsFormed};
 
-use review_policy::Fault;
+use office_words::Fault;
 use sqlite::Row;
 use std::alloc::Global;
 

@@ -3,7 +3,7 @@
 ghost use Rattle.std.specs.Prelude.{◌≡◌};
 ghost use Rattle.sqlite.specs.Held.{state};
 ghost use Rattle.office_rows.specs.Told.{TellsWhether};
-ghost use Rattle.office_tables.specs.Changes.{with_hold, without_hold};
+ghost use Rattle.office_words.specs.Changes.{with_hold, without_hold};
 ghost use Rattle.office_store.specs.Calls.{Into};
 ghost use Rattle.office_store.specs.Connections.{MeetsOnErr, Reads, ReadsFirst, Writes};
 ghost use Rattle.office_store.specs.Keys.{profile_params};
@@ -13,7 +13,7 @@ ghost use Rattle.office_store.specs.Writes.{holding, releasing};
 use crate::bind::of_profile;
 use crate::finding::finds_any;
 use crate::write::{write_one, write_two};
-use review_policy::{Fault, ProfileName};
+use office_words::{Fault, ProfileName};
 use sqlite::{Alter, Connection, Row};
 
 pub(crate) const HOLD_OF: &str = "SELECT team, profile FROM holds WHERE team = ?1 AND profile = ?2";

@@ -4,7 +4,7 @@ ghost use Rattle.std.specs.Prelude.{[], ◌∷◌};
 ghost use Rattle.sqlite.specs.Held.{state};
 ghost use Rattle.sqlite.specs.declared.types.Value.TheVariants.{Text as SqlText};
 ghost use Rattle.office_rows.specs.Told.{TellsAll, map_ok};
-ghost use Rattle.office_tables.specs.Lists.{AreRevisionsOf};
+ghost use Rattle.office_words.specs.Lists.{AreRevisionsOf};
 ghost use Rattle.office_store.specs.Connections.{Reads, ReadsAll};
 ghost use Rattle.office_store.specs.Lists.{listed_row, IsListedForm};
 ghost use Rattle.office_store.specs.Shown.{IsIdle};
@@ -13,8 +13,7 @@ use crate::bind::of_word;
 use crate::column::{number_at, state_at, word_at};
 use crate::finding::find_all;
 use crate::from_row::FromRow;
-use office_tables::ListedRevision;
-use review_policy::{Fault, Word};
+use office_words::{Fault, ListedRevision, Word};
 use sqlite::{Alter, Connection, Row};
 use std::alloc::Global;
 

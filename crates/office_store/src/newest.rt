@@ -2,7 +2,7 @@
 
 ghost use Rattle.sqlite.specs.Held.{state};
 ghost use Rattle.office_rows.specs.Told.{TellsAll, map_ok};
-ghost use Rattle.office_tables.specs.Lists.{AreNewest};
+ghost use Rattle.office_words.specs.Lists.{AreNewest};
 ghost use Rattle.office_store.specs.Connections.{Reads, ReadsAll};
 ghost use Rattle.office_store.specs.Keys.{revision_params};
 ghost use Rattle.office_store.specs.Lists.{told_row, IsToldForm, most_read};
@@ -12,7 +12,7 @@ use crate::bind::of_number;
 use crate::column::{digest_at, number_at, state_at, word_at};
 use crate::finding::find_all;
 use crate::from_row::FromRow;
-use review_policy::{Fault, ProfileName, ProfileRevision};
+use office_words::{Fault, ProfileName, ProfileRevision};
 use sqlite::{Alter, Connection, Row};
 use std::alloc::Global;
 

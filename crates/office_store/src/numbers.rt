@@ -2,7 +2,7 @@
 
 ghost use Rattle.sqlite.specs.Held.{state};
 ghost use Rattle.office_rows.specs.Told.{TellsOne};
-ghost use Rattle.office_tables.specs.Reads.{IsLast, IsIssued};
+ghost use Rattle.office_words.specs.Reads.{IsLast, IsIssued};
 ghost use Rattle.office_store.specs.Connections.{Reads, ReadsFirst};
 ghost use Rattle.office_store.specs.Keys.{profile_params};
 ghost use Rattle.office_store.specs.Lists.{number_row, IsNumber, IsNumberOf};
@@ -13,7 +13,7 @@ use crate::bind::of_profile;
 use crate::column::{number_at, state_at};
 use crate::finding::find;
 use crate::from_row::FromRow;
-use review_policy::{Fault, ProfileName, State};
+use office_words::{Fault, ProfileName, State};
 use sqlite::{Alter, Connection, Row};
 
 pub(crate) const LAST_NUMBERED: &str =
@@ -23,7 +23,7 @@ pub(crate) const ISSUED_NUMBER: &str =
     "SELECT number FROM revisions WHERE team = ?1 AND profile = ?2 AND state = 2";
 
 /// A revision's number and its state.
-#[derive(Clone, Copy, Debug, PartialEq, Eq)]
+#[derive(Clone, Copy)]
 pub struct Numbered {
     pub number: u32,
     pub state: State,

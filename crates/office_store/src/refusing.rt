@@ -4,11 +4,11 @@ ghost use Rattle.std.specs.Prelude.{◌≡◌, ◌^◌, ◌-◌, ℕ, List, [], 
 ghost use Rattle.sqlite.specs.declared.types.Value.TheVariants.{Int, Text as SqlText};
 ghost use Rattle.sqlite.specs.Effect.{Database};
 ghost use Rattle.sqlite.specs.Held.{state};
-ghost use Rattle.review_policy.specs.declared.ask.ProfileName.{ProfileName};
-ghost use Rattle.office_tables.specs.Tables.{Tables};
-ghost use Rattle.review_policy.specs.declared.fault.Fault.{Fault as TheFault};
-ghost use Rattle.review_policy.specs.declared.fault.Fault.TheVariants.{Full, NotAnOffice};
-ghost use Rattle.office_tables.specs.declared.row.UserRow.{UserRow};
+ghost use Rattle.office_words.specs.declared.name.ProfileName.{ProfileName};
+ghost use Rattle.office_words.specs.Tables.{Tables};
+ghost use Rattle.office_words.specs.declared.fault.Fault.{Fault as TheFault};
+ghost use Rattle.office_words.specs.declared.fault.Fault.TheVariants.{Full, NotAnOffice};
+ghost use Rattle.office_words.specs.declared.row.UserRow.{UserRow};
 ghost use Rattle.office_rows.specs.Refusals.{HasLongRowid, IsBig, LacksRowid};
 ghost use Rattle.office_rows.specs.Statements.{Refuses};
 ghost use Rattle.office_store.specs.Entries.{IsUser, IsProfileName, VoteEntry, IsVote};

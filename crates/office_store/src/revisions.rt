@@ -3,8 +3,8 @@
 ghost use Rattle.std.specs.Prelude.{◌≡◌, ◌↔◌, true};
 ghost use Rattle.sqlite.specs.Held.{state};
 ghost use Rattle.office_rows.specs.Told.{TellsOne, TellsWhether};
-ghost use Rattle.office_tables.specs.Changes.{with_issued, with_withdrawn};
-ghost use Rattle.office_tables.specs.Reads.{IsLast, IsIssued, HasRevision, Adds};
+ghost use Rattle.office_words.specs.Changes.{with_issued, with_withdrawn};
+ghost use Rattle.office_words.specs.Reads.{IsLast, IsIssued, HasRevision, Adds};
 ghost use Rattle.office_store.specs.Calls.{Into};
 ghost use Rattle.office_store.specs.Connections.{MeetsOnErr, Reads, ReadsFirst, Writes};
 ghost use Rattle.office_store.specs.Entries.{revision_columns, IsRevisionForm};
@@ -17,8 +17,7 @@ use crate::column::{digest_at, number_at, state_at, text_at, word_at};
 use crate::finding::{find, finds_any};
 use crate::from_row::FromRow;
 use crate::write::{write_one, write_two};
-use office_tables::RevisionRow;
-use review_policy::{Fault, ProfileName, State, Text, Word};
+use office_words::{Fault, ProfileName, RevisionRow, State, Text, Word};
 use sqlite::{Alter, Connection, Row};
 use std::alloc::Global;
 

@@ -3,7 +3,7 @@
 ghost use Rattle.std.specs.Prelude.{◌≡◌, ◌≢◌, ◌&&◌, List, Err, IfOk, IfErr, map};
 ghost use Rattle.std.specs.List.{AllByRecursion};
 ghost use Rattle.sqlite.specs.Held.{state};
-ghost use Rattle.office_tables.specs.Lists.{AreStanding, IsTally, tally_of};
+ghost use Rattle.office_words.specs.Lists.{AreStanding, IsTally, tally_of};
 ghost use Rattle.office_rows.specs.Told.{IsOfRow, map_ok};
 ghost use Rattle.office_store.specs.Connections.{FindsAll, Reads, ReadsAll};
 ghost use Rattle.office_store.specs.Lists.{Cast, cast_row, IsCastForm, IsCastAs};
@@ -14,8 +14,7 @@ ghost use Rattle.office_store.specs.Shown.{IsIdle};
 use crate::bind::of_number;
 use crate::column::{flag_at, roles_at, word_at};
 use office_rows::all_rows;
-use office_tables::Tally;
-use review_policy::{Fault, ProfileName, Role, VoteRow};
+use office_words::{Fault, ProfileName, Role, Tally, VoteRow};
 use sqlite::{Alter, Connection, Row};
 use std::alloc::Global;
 

@@ -12,14 +12,14 @@ use crate::bind::of_number;
 use crate::column::{digest_at, state_at};
 use crate::finding::find;
 use crate::from_row::FromRow;
-use review_policy::{Fault, ProfileName, State};
+use office_words::{Fault, ProfileName, State};
 use sqlite::{Alter, Connection, Row};
 
 pub(crate) const STATE_AND_DIGEST: &str =
     "SELECT state, digest FROM revisions WHERE team = ?1 AND profile = ?2 AND number = ?3";
 
 /// A revision without its text.
-#[derive(Clone, Copy, Debug, PartialEq, Eq)]
+#[derive(Clone, Copy)]
 pub struct Summary {
     pub state: State,
     /// SHA-256 of its text.

@@ -3,7 +3,7 @@
 ghost use Rattle.std.specs.Prelude.{◌≡◌, option_map};
 ghost use Rattle.sqlite.specs.Held.{state};
 ghost use Rattle.office_rows.specs.Told.{TellsOne};
-ghost use Rattle.office_tables.specs.Changes.{with_vote};
+ghost use Rattle.office_words.specs.Changes.{with_vote};
 ghost use Rattle.office_store.specs.Ballots.{vote_of, row_of_ballot, IsBallot};
 ghost use Rattle.office_store.specs.Calls.{Into};
 ghost use Rattle.office_store.specs.Connections.{MeetsOnErr, Reads, ReadsFirst, Writes};
@@ -17,7 +17,7 @@ use crate::column::flag_at;
 use crate::finding::find;
 use crate::from_row::FromRow;
 use crate::write::write_one;
-use review_policy::{Fault, ProfileName, Word};
+use office_words::{Fault, ProfileName, Word};
 use sqlite::{Alter, Connection, Row};
 
 pub(crate) const VOTE_AT: &str =
@@ -27,7 +27,7 @@ pub(crate) const PUT_VOTE: &str =
     "INSERT INTO votes (team, profile, number, voter, approve, security) VALUES (?1, ?2, ?3, ?4, ?5, ?6) ON CONFLICT (team, profile, number, voter) DO UPDATE SET approve = ?5, security = ?6";
 
 /// A vote on a revision, and whether the voter holds the role security at it.
-#[derive(Clone, Copy, Debug, PartialEq, Eq)]
+#[derive(Clone, Copy)]
 pub struct Ballot {
     pub approves: bool,
     pub security: bool,

@@ -9,8 +9,7 @@ ghost use Rattle.no_memory.specs.Witness.{witness};
 
 use crate::bind::of_bound;
 use crate::finding::find;
-use office_tables::ListedRevision;
-use review_policy::{Fault, Word};
+use office_words::{Fault, ListedRevision, Word};
 use sqlite::{Alter, Connection};
 use std::alloc::Global;
 

@@ -9,7 +9,7 @@ ghost use Rattle.office_store.specs.Shown.{IsIdle};
 ghost use Rattle.office_store.specs.Steps.{statement, AreSteps};
 
 use office_rows::{Statement, fault_of_error, run_all};
-use review_policy::Fault;
+use office_words::Fault;
 use sqlite::types::ValueRef;
 use sqlite::{Alter, Connection};
 

@@ -1,3 +1,4 @@
 pub mod ReadFacts
 pub mod ListFacts
 pub mod OutcomeFacts
+pub mod PlaceFacts

@@ -1,7 +1,7 @@
 -- The set that a LIST writes.
-use Rattle.std.proofs.Common.{◌≡◌, ℕ, ◌<◌, Bool, false, List, [], ◌∷◌, Option, None, Some, length, refl, sym, ap, arith}
+use Rattle.std.proofs.Common.{◌≡◌, ℕ, ◌<◌, Bool, true, false, cond, map, List, [], ◌∷◌, Option, None, Some, length, refl, sym, ap, arith}
 use Rattle.std.specs.Prelude.{◌==◌, option_and_then, option_map}
-use Rattle.std.specs.List.{after_first, before_first, position_or_len}
+use Rattle.std.specs.List.{after_first, before_first, find, position_or_len}
 use Rattle.std.specs.Int.RustNames.{bit_or}
 use Rattle.std.proofs.lemmas.List.Elements.{All-from_get_or}
 use Rattle.std.proofs.lemmas.List.Splits.{slice_split_first, slice_split_none}
@@ -54,3 +54,17 @@ last_at (Some number) caps = refl
 pub last_named : (caps : ℕ) (list : List ℕ) → position_or_len is_comma list ≡ length list
     → with_names caps (parts_of list) ≡ option_map (λ number. bit_or caps (single number)) (number_named list)
 last_named caps list none = rw (parts_of-alone list none) (last_at (number_named list) caps)
+
+-- the first of some views that passes is the view of the first whose view does
+one_viewed : {A B : Type 0} (v : A → B) (x : A) (passes : Bool) (other : Option A) (others : Option B) → option_map v other ≡ others
+    → option_map v (cond passes (Some x) other) ≡ cond passes (Some (v x)) others
+one_viewed v x true other others same = refl
+one_viewed v x false other others same = same
+
+pub find_viewed : {A B : Type 0} (v : A → B) (test : B → Bool) (xs : List A) → option_map v (find (λ x. test (v x)) xs) ≡ find test (map v xs)
+find_viewed v test [] = refl
+find_viewed v test (x ∷ xs) = one_viewed v x (test (v x)) (find (λ y. test (v y)) xs) (find test (map v xs)) (find_viewed v test xs)
+
+pub same_option : {A : Type 0} (o : Option A) → option_map (λ x. x) o ≡ o
+same_option None = refl
+same_option (Some x) = refl

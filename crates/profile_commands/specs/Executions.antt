@@ -1,7 +1,8 @@
 -- How a process executes its file, by the words of `execve`, and what comes of it: capabilities(7),
 -- "Transformation of capabilities during execve()".
 use Rattle.std.specs.Prelude.{◌≡◌, ℕ, Bool, ◌||◌, List, Option, Some, None, is_some, option_map}
-use Rattle.std.specs.Prelude.{Result, Ok, Err, string_bytes, if◌then◌else◌}
+use Rattle.std.specs.Prelude.{Result, Ok, Err, string_bytes, if◌then◌else◌, option_copied}
+use Rattle.std.specs.List.{find}
 use Rattle.cap_sets.specs.declared.exec.File.TheVariants.{Plain, WithCaps}
 use Rattle.cap_sets.specs.declared.state.CapState.{CapState}
 use Rattle.cap_sets.specs.Execve.{IsAfter, IsAfterRoot, IsDenied}
@@ -17,7 +18,7 @@ use Rattle.profile_commands.specs.declared.execution.ExecutionFault.TheVariants.
 use Rattle.profile_commands.specs.declared.fault.FileFault.{FileFault}
 use Rattle.profile_commands.specs.declared.execve.ExecveOutcome.{ExecveOutcome}
 use Rattle.profile_commands.specs.declared.execve.ExecveOutcome.TheVariants.{Done, Denied}
-use Rattle.profile_commands.specs.Lists.{set_listed}
+use Rattle.profile_commands.specs.Lists.{is_unknown, parts_of, set_listed}
 use Rattle.profile_commands.specs.Refusal.{RefusesAs}
 
 -- an option gives the file capabilities
@@ -46,6 +47,22 @@ execution_of words =
     else file_given (set_given (option_map (λ s. s.now) words.file_permitted))
     (set_given (option_map (λ s. s.now) words.file_inheritable)) words.file_effective)
     else (if words.root then Ok ByRoot else Ok (OfFile Plain))
+
+-- the first part of a LIST that is the name of no capability, where the LIST is given
+abbrev pub unknown_given : Option (List ℕ) → Option (List ℕ)
+unknown_given None = None
+unknown_given (Some list) = find is_unknown (parts_of list)
+
+-- the first of two, where there is one, and else the other
+abbrev pub first_of : Option (List ℕ) → Option (List ℕ) → Option (List ℕ)
+first_of None other = other
+first_of (Some text) other = Some text
+
+-- of the LISTs of `execve` the first part that is the name of no capability
+abbrev pub unknown_of : ExecveWords → Option (List ℕ)
+unknown_of words =
+    first_of (unknown_given (option_copied words.file_permitted))
+    (unknown_given (option_copied words.file_inheritable))
 
 -- the outcome is the lines of this state
 abbrev pub IsDone : CapState → ExecveOutcome → Type 0

@@ -3,3 +3,4 @@ pub mod Lists
 pub mod Executions
 pub mod Comparing
 pub mod FaultTexts
+pub mod Places

@@ -9,13 +9,12 @@ use no_memory::NoMemory;
 use profile_text::Profile;
 use review_sheet::findings_text;
 use std::alloc::{AllocError, Global};
-use std::error::Error;
 use std::fmt;
 use streams::Unread;
 use widening::findings;
 
 /// Why two documents weren't compared, with the words that the program says on standard error.
-#[derive(Debug, Drop)]
+#[derive(Drop)]
 pub enum ComparedFault {
     /// BASE wasn't read, or is no document: why, which is never out of memory.
     Base(FileFault),
@@ -40,8 +39,6 @@ impl fmt::Display for ComparedFault {
         }
     }
 }
-
-impl Error for ComparedFault {}
 
 impl From<AllocError> for ComparedFault {
     ghost use Rattle.std.specs.Prelude.{◌≡◌};

@@ -1,15 +1,16 @@
 //! How a process executes its file.
 
-ghost use Rattle.std.specs.Prelude.{◌≡◌, option_map};
+ghost use Rattle.std.specs.Prelude.{◌≡◌, option_copied, option_map};
 ghost use Rattle.profile_commands.specs.Executions.{execution_of, set_given, takes_file};
+ghost use Rattle.profile_commands.specs.Executions.{unknown_given, unknown_of};
 
-use crate::list::set_listed;
+use crate::list::{set_listed, unknown_part};
 use cap_sets::{Caps, File};
 use command_line::ExecveWords;
 use thiserror::Error;
 
 /// How a process executes its file.
-#[derive(Clone, Copy, Debug)]
+#[derive(Clone, Copy)]
 pub enum Execution {
     /// Its real and effective user ids are those of root, and the file is plain.
     ByRoot,
@@ -18,7 +19,7 @@ pub enum Execution {
 }
 
 /// Why the words of `execve` describe no execution.
-#[derive(Clone, Copy, Debug, Drop, PartialEq, Eq, Error)]
+#[derive(Clone, Copy, Debug, Drop, Error)]
 pub enum ExecutionFault {
     /// `--root` stands beside an option of the file: root's case is that of a plain file.
     #[error("root-takes-no-file")]
@@ -73,5 +74,25 @@ pub fn execution_of(words: &ExecveWords<'_>) -> Result<Execution, ExecutionFault
             effective: words.file_effective,
         })),
         _ => Err(ExecutionFault::UnknownCapability),
+    }
+}
+
+// The first part of a LIST that is the name of no capability, where the LIST is given.
+fn unknown_given(list: Option<&str>) -> Option<&str>
+    ensures { option_copied result ≡ unknown_given (option_copied list.entry) }
+{
+    match list {
+        Some(list) => unknown_part(list),
+        None => None,
+    }
+}
+
+/// Of the LISTs of `execve` the first part that is the name of no capability.
+pub fn unknown_of<'w>(words: &ExecveWords<'w>) -> Option<&'w str>
+    ensures { option_copied result ≡ unknown_of words.now }
+{
+    match unknown_given(words.file_permitted) {
+        Some(part) => Some(part),
+        None => unknown_given(words.file_inheritable),
     }
 }

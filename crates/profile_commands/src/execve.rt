@@ -11,7 +11,7 @@ use review_sheet::state_text;
 use std::alloc::{AllocError, Global};
 
 /// What comes of execve.
-#[derive(Debug, Drop)]
+#[derive(Drop)]
 pub enum ExecveOutcome {
     /// The five lines of the state after it.
     Done(String),

@@ -7,13 +7,12 @@ use crate::json_place::JsonPlace;
 use crate::name_told::name_told;
 use profile_text::DocFault;
 use std::alloc::AllocError;
-use std::error::Error;
 use std::fmt;
 use streams::Unread;
 
 /// Why a command on a document in a file gave nothing, with the words that the program says on
 /// standard error.
-#[derive(Debug, Drop)]
+#[derive(Drop)]
 pub enum FileFault {
     /// The file wasn't read: why. `NoMemory` is also answered where memory was refused later.
     Unread(Unread),
@@ -57,8 +56,6 @@ impl fmt::Display for FileFault {
         }
     }
 }
-
-impl Error for FileFault {}
 
 impl From<Unread> for FileFault {
     ghost use Rattle.std.specs.Prelude.{◌≡◌};

@@ -1,9 +1,10 @@
 //! Lists of capabilities as a command line writes them.
 
-ghost use Rattle.std.specs.Prelude.{◌≡◌, option_map};
+ghost use Rattle.std.specs.Prelude.{◌≡◌, map, option_copied, option_map};
+ghost use Rattle.std.specs.List.{find};
 ghost use Rattle.std.specs.Int.RustNames.{bit_or};
 ghost use Rattle.cap_sets.specs.Capability.{number_named, single};
-ghost use Rattle.profile_commands.specs.Lists.{set_listed};
+ghost use Rattle.profile_commands.specs.Lists.{is_unknown, parts_of, set_listed};
 
 use cap_sets::Caps;
 
@@ -32,4 +33,25 @@ pub fn set_listed(list: &str) -> Option<Caps>
         rest = others;
     }
     with_named(caps, rest)
+}
+
+// Whether no capability has this name.
+fn is_unknown(name: &str) -> bool
+    ensures { result ≡ is_unknown name.now }
+{
+    Caps::from_name(name).is_none()
+}
+
+/// The first of these names that no capability has.
+pub fn unknown_name<'n>(names: &[&'n str]) -> Option<&'n str>
+    ensures { option_copied result ≡ find is_unknown (map (λ name. name.now) names.now) }
+{
+    names.iter().copied().find(|name| is_unknown(name))
+}
+
+/// The first part of a LIST that is the name of no capability.
+pub fn unknown_part(list: &str) -> Option<&str>
+    ensures { option_copied result ≡ find is_unknown (parts_of list.now) }
+{
+    list.split(',').find(|part| is_unknown(part))
 }

@@ -1,6 +1,7 @@
 //! What a filter makes of calls.
 
-use profile_text::{Profile, print, read};
+use crate::told::profile_of;
+use profile_text::{Profile, print};
 use seccomp_doc::{Action, Filter, action_for};
 use std::alloc::Global;
 use std::process::Abort;
@@ -22,7 +23,7 @@ const FILTER: &str = r#"{"capabilities":{},"seccomp":{"defaultAction":"SCMP_ACT_
 
 // The filter of a document.
 fn filter_of(alloc: Global, document: &str) -> Result<Filter, Fail> {
-    let Profile { filter, .. } = read(alloc, document.as_bytes())?;
+    let Profile { filter, .. } = profile_of(alloc, document)?;
     Ok(filter.ok_or("no filter")?)
 }
 
@@ -82,7 +83,7 @@ fn two_entries_of_one_call_are_alternatives(rt: HostRuntime) -> Result<(), Fail>
         action_for(&filter, "read", [3, 0, 0, 0, 0, 0]),
         action_for(&filter, "write", [1, 0, 0, 0, 0, 0]),
     ];
-    assert_eq!(rt; others, [Action::Errno(1); 2]);
+    assert!(rt; others == [Action::Errno(1); 2]);
     Ok(())
 }
 
@@ -105,7 +106,7 @@ fn all_comparisons_of_an_entry_must_hold(rt: HostRuntime) -> Result<(), Fail> {
         action_for(&filter, "fcntl", [0, 8, 0, 0, 0, 7]),
     ];
     let refused = Action::Errno(1);
-    assert_eq!(rt; told, [Action::Allow, Action::Allow, refused, refused]);
+    assert!(rt; told == [Action::Allow, Action::Allow, refused, refused]);
     Ok(())
 }
 
@@ -118,6 +119,6 @@ fn the_closed_profile_kills_a_process_that_calls(rt: HostRuntime) -> Result<(), 
     let closed = Profile::closed(rt.alloc());
     assert_eq!(rt; print(rt.alloc(), &closed)?.as_str(), CLOSED);
     let filter = closed.filter.ok_or("no filter")?;
-    assert_eq!(rt; action_for(&filter, "read", [0; 6]), Action::KillProcess);
+    assert!(rt; action_for(&filter, "read", [0; 6]) == Action::KillProcess);
     Ok(())
 }

@@ -51,12 +51,26 @@ fn implies_by_words(c: Compare, d: Compare) -> bool {
         && (8..16).all(|word| !c.admits(word) || d.admits(word))
 }
 
+// That a comparison implies another, or doesn't, as is wanted.
+fn assert_implied(rt: &impl Abort, c: Compare, d: Compare, wanted: bool) {
+    let (one, other) = (c.op.word(), d.op.word());
+    assert_eq!(rt;
+        implies(c, d),
+        wanted,
+        "{one} {} {}, {other} {} {}",
+        c.value,
+        c.value_two,
+        d.value,
+        d.value_two
+    );
+}
+
 // That each of these comparisons implies each of them as the words say, whatever their indexes are.
 fn assert_imply_by_words(rt: &impl Abort, all: &[Compare]) {
     for c in all {
         for d in all {
             let other = Compare { index: 5, ..*d };
-            assert_eq!(rt; implies(*c, other), implies_by_words(*c, *d), "{c:?} {d:?}");
+            assert_implied(rt, *c, other, implies_by_words(*c, *d));
         }
     }
 }
@@ -119,6 +133,6 @@ fn comparisons_imply_as_it_is_worked_out(rt: HostRuntime) {
             true,
         ),
     ] {
-        assert_eq!(rt; implies(c, d), wanted, "{c:?} {d:?}");
+        assert_implied(&rt, c, d, wanted);
     }
 }

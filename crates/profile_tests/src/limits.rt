@@ -3,8 +3,8 @@
 //! a filter above a limit is refused.
 
 use crate::told::{assert_found, told};
+use office_words::digest_from_hex;
 use profile_text::digest;
-use review_policy::digest_from_hex;
 use std::alloc::{AllocError, Global};
 use std::process::Abort;
 use std::test::Fail;

@@ -1,7 +1,7 @@
 //! What no document and no command line shows.
 
-use crate::told::told;
-use cap_sets::{Caps, Eperm, File, execve};
+use crate::told::{profile_of, told};
+use cap_sets::{Caps, File, execve};
 use no_memory::NoMemory;
 use profile_text::{DocFault, Profile, fault_text, read};
 use std::test::Fail;
@@ -9,7 +9,7 @@ use std::test::Fail;
 #[test]
 fn a_bit_above_40_is_no_set(rt: HostRuntime) {
     for bits in [1 << 41, (1 << 42) - 1, 1 << 63, u64::MAX] {
-        assert_eq!(rt; Caps::from_bits(bits), None, "at {bits}");
+        assert!(rt; Caps::from_bits(bits).is_none(), "at {bits}");
     }
 }
 
@@ -43,9 +43,14 @@ fn a_file_with_empty_sets_clears_what_is_ambient(rt: HostRuntime) -> Result<(), 
         inheritable: Caps::empty(),
         effective: false,
     };
-    let before = read(rt.alloc(), before.as_bytes())?.caps;
-    let after = read(rt.alloc(), after.as_bytes())?.caps;
-    assert_eq!(rt; execve(&before, file), Ok(after));
+    let before = profile_of(rt.alloc(), before)?.caps;
+    let after = profile_of(rt.alloc(), after)?.caps;
+    let Ok(found) = execve(&before, file) else {
+        return Err(Fail::from("EPERM"));
+    };
+    assert!(rt; found.permitted == after.permitted && found.effective == after.effective);
+    assert!(rt; found.inheritable == after.inheritable && found.bounding == after.bounding);
+    assert!(rt; found.ambient == after.ambient);
     Ok(())
 }
 
@@ -57,7 +62,6 @@ fn texts_that_no_document_brings_about(rt: HostRuntime) -> Result<(), Fail> {
         fault_text(alloc, &DocFault::NoMemory(NoMemory::told()))?.as_str(),
         "memory"
     );
-    assert_eq!(rt; Eperm.to_string(alloc)?.as_str(), "EPERM");
     Ok(())
 }
 
@@ -80,7 +84,7 @@ const DOCUMENTS: [&str; 2] = [
 #[test]
 fn documents_are_read_with_ample_memory(rt: HostRuntime) -> Result<(), Fail> {
     for document in DOCUMENTS {
-        let profile = read(rt.alloc(), document.as_bytes())?;
+        let profile = profile_of(rt.alloc(), document)?;
         assert_eq!(rt; profile.caps.permitted.bits(), 0b10_0001);
     }
     Ok(())

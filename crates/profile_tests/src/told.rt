@@ -15,6 +15,14 @@ pub(crate) fn told(alloc: Global, document: &[u8]) -> Result<String, AllocError>
     }
 }
 
+/// What a document reads as.
+pub(crate) fn profile_of(alloc: Global, document: &str) -> Result<Profile, Fail> {
+    match read(alloc, document.as_bytes()) {
+        Ok(profile) => Ok(profile),
+        Err(fault) => Err(Fail::from(fault_text(alloc, &fault)?)),
+    }
+}
+
 // What a new profile permits more than a baseline, a line each.
 fn found(alloc: Global, base: &Profile, new: &Profile) -> Result<String, AllocError> {
     let found = findings(alloc, base, new)?;
@@ -23,8 +31,8 @@ fn found(alloc: Global, base: &Profile, new: &Profile) -> Result<String, AllocEr
 
 // The same of documents.
 fn found_between(alloc: Global, base: &str, new: &str) -> Result<String, Fail> {
-    let base = read(alloc, base.as_bytes())?;
-    let new = read(alloc, new.as_bytes())?;
+    let base = profile_of(alloc, base)?;
+    let new = profile_of(alloc, new)?;
     Ok(found(alloc, &base, &new)?)
 }
 

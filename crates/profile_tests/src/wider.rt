@@ -1,6 +1,7 @@
 //! That a profile is wider than another just where there are findings.
 
-use profile_text::{Profile, read};
+use crate::told::profile_of;
+use profile_text::Profile;
 use std::alloc::Global;
 use std::process::Abort;
 use std::test::Fail;
@@ -124,7 +125,7 @@ const DOCUMENTS: &str = r#"{"capabilities":{}}
 fn profiles_of(alloc: Global, documents: &str) -> Result<Vec<Profile>, Fail> {
     let mut profiles = Vec::new(alloc);
     for document in documents.split("\n\n") {
-        profiles.push(read(alloc, document.as_bytes())?)?;
+        profiles.push(profile_of(alloc, document)?)?;
     }
     Ok(profiles)
 }

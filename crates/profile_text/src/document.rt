@@ -26,7 +26,7 @@ use std::alloc::Global;
 const MOST_BYTES: usize = 262_144;
 
 /// A document that was read.
-#[derive(Debug, Drop)]
+#[derive(Drop)]
 pub struct Document {
     /// What it stands for.
     pub profile: Profile,

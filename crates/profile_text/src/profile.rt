@@ -8,7 +8,7 @@ use std::alloc::Global;
 
 /// What a container may do: its capability sets, and its filter of system calls, where it has one.
 /// Without a filter every call is allowed.
-#[derive(Debug, Drop)]
+#[derive(Drop)]
 pub struct Profile {
     pub caps: CapState,
     pub filter: Option<Filter>,

@@ -7,7 +7,7 @@ ghost use Rattle.profile_text.specs.State.{state_of};
 use cap_sets::{CapFault, CapState, Caps};
 
 /// One of the five capability sets of a process.
-#[derive(Clone, Copy, PartialEq, Eq, Debug)]
+#[derive(Clone, Copy)]
 pub enum CapSet {
     Ambient,
     Bounding,

@@ -4,7 +4,7 @@ use std::fmt;
 
 /// How much of a file has been read, in bytes. Its text has both numbers in whole megabytes, of
 /// 1,000,000 bytes each, rounded down; a file that grew as it was read counts as read whole.
-#[derive(Clone, Copy, Debug, PartialEq, Eq)]
+#[derive(Clone, Copy)]
 pub struct ReadSoFar {
     pub done: u64,
     pub whole: u64,

@@ -8,9 +8,9 @@ use Rattle.std.specs.declared.io.ErrorKind.TheVariants as kind
 use Rattle.sqlite.specs.Held.{Held}
 use Rattle.sqlite.specs.declared.error.Error.{Error as SqliteError}
 use Rattle.memory_database.specs.Copies.{CopyStore, over_copy, FailsToCopy, IsCopyOf}
-use Rattle.review_policy.specs.declared.fault.Fault.{Fault}
-use Rattle.review_policy.specs.declared.fault.Fault.TheVariants.{NoMemory, Disk, NotAnOffice}
-use Rattle.database_head.specs.Extents.{database_extent, head_bytes, log_extent, most_bytes}
+use Rattle.office_founding.specs.declared.fault.OpeningFault.{OpeningFault}
+use Rattle.office_words.specs.declared.fault.Fault.TheVariants.{NoMemory, Disk, NotAnOffice}
+use Rattle.database_files.specs.Extents.{database_extent, head_bytes, log_extent, most_bytes}
 use Rattle.command_host.specs.FailedCalls.{CallFailed}
 use Rattle.command_host.specs.Openings.{fault_of_opening, IsNoOffice, IsOpenedOffice}
 use Rattle.command_host.specs.declared.fault.CommandFault.{CommandFault}
@@ -99,13 +99,13 @@ module _ (log database : List ℕ) where
   IsCopiedOffice = IsOpenedOffice over_copy (IsCopyOf log database)
 
   -- no copy is made, for this
-  abbrev pub IsUncopied : Fault → Type 0
+  abbrev pub IsUncopied : CommandFault → Type 0
   IsUncopied why = (error : SqliteError) × FailsToCopy log database error
       × (why ≡ fault_of_opening error)
 
   -- no copy is made; or what is in it is no office of this schema
   abbrev pub IsNoCopiedOffice : CommandFault → Type 0
-  IsNoCopiedOffice (fault.Store why) = IsUncopied why
-  IsNoCopiedOffice (fault.Opening why) =
-      (was new : Held CopyStore) × IsCopyOf log database was × IsNoOffice over_copy was new why
-  IsNoCopiedOffice _ = ⊥
+  IsNoCopiedOffice why =
+      IsUncopied why
+      ⊎ ((none : OpeningFault) × (why ≡ fault.Opening none) × ((was new : Held CopyStore)
+      × IsCopyOf log database was × IsNoOffice over_copy was new none))

@@ -6,7 +6,7 @@ use Rattle.std.specs.declared.alloc.Global.{Global}
 use Rattle.std.specs.declared.io.Error.{Error}
 use Rattle.std.specs.declared.io.ErrorKind.TheVariants as kind
 use Rattle.std.specs.declared.path.buf.PathBuf.{PathBuf}
-use Rattle.review_policy.specs.declared.fault.Fault.TheVariants.{NoMemory, Disk, NotAnOffice}
+use Rattle.office_words.specs.declared.fault.Fault.TheVariants.{NoMemory, Disk, NotAnOffice}
 use Rattle.command_host.specs.declared.fault.CommandFault.{CommandFault}
 use Rattle.command_host.specs.declared.fault.CommandFault.TheVariants as fault
 use Rattle.reading_commands.specs.declared.place.Place.{Place}

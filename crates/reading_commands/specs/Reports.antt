@@ -17,9 +17,9 @@ use Rattle.command_host.specs.declared.fault.CommandFault.TheVariants as fault
 use Rattle.command_host.specs.ReadFaults.{IsToldOf}
 use Rattle.command_host.specs.JournalTexts.{IsNoText, IsTextAt}
 use Rattle.reading_commands.specs.declared.history.Names.{Names}
-use Rattle.office_desk.specs.Meant.{meaning_over}
-use Rattle.review_policy.specs.Words.{is_word}
-use Rattle.review_policy.specs.declared.ask.ProfileName.{ProfileName}
+use Rattle.review_office.specs.Meant.{meaning_over}
+use Rattle.office_words.specs.Words.{is_word}
+use Rattle.office_words.specs.declared.name.ProfileName.{ProfileName}
 use Rattle.streams.specs.declared.counted.Counted.{Counted}
 use Rattle.no_memory.specs.Witness.{witness}
 

@@ -5,7 +5,7 @@ use Rattle.std.specs.declared.io.Error.{Error as IoError}
 use Rattle.std.specs.declared.path.buf.PathBuf.{PathBuf}
 use Rattle.sqlite.specs.Held.{Held, state}
 use Rattle.command_line.specs.declared.command.KeptSeal.{KeptSeal as WordsSeal}
-use Rattle.database_head.specs.Extents.{user_version}
+use Rattle.database_files.specs.Extents.{user_version}
 use Rattle.desk_http.specs.Lines.{IsCut, IsWhole}
 use Rattle.journal_verification.specs.Looked.{HasLooked}
 use Rattle.journal_verification.specs.Verified.{IsUnverified, IsVerified}
@@ -14,6 +14,7 @@ use Rattle.journal_faults.specs.declared.unverified.Unverified.{Unverified}
 use Rattle.journal_verification.specs.declared.verification.Verified.{Verified}
 use Rattle.command_host.specs.declared.fault.CommandFault.{CommandFault}
 use Rattle.command_host.specs.declared.fault.CommandFault.TheVariants as fault
+use Rattle.command_host.specs.Marks.{least_lines}
 use Rattle.command_host.specs.ReadFaults.{IsToldOf}
 use Rattle.command_host.specs.JournalTexts.{IsNoText, IsTextAt}
 use Rattle.command_host.specs.Said.{seal_line}
@@ -37,7 +38,7 @@ module _ {F : Type 0} (Opens : List ℕ → Result F IoError → Type 0) where
       (kept : Option WordsSeal) where
     -- An office in a copy of them was opened. It is that of the lawful history that the journal
     -- tells, of so many events; the journal has the seal that was kept, no fewer lines than the
-    -- database is marked with, and this is its seal.
+    -- mark of the database tells, and this is its seal.
     pub record WasVerifiedIn (found : Verified) : Type 0 where
       pub log : List ℕ
       pub database : List ℕ
@@ -46,7 +47,8 @@ module _ {F : Type 0} (Opens : List ℕ → Result F IoError → Type 0) where
       pub new : Held CopyStore
       pub office : IsCopiedOffice log database old
       pub looked : HasLooked (state over_copy old) (state over_copy new)
-      pub verified : IsVerified text over_copy (kept_of kept) (user_version database) new found
+      pub verified : IsVerified text over_copy (kept_of kept)
+          (least_lines (user_version database)) new found
 
     -- an office in a copy of them was opened, and isn't that of the journal, for this
     pub record WasUnverifiedIn (why : Unverified) : Type 0 where
@@ -58,7 +60,8 @@ module _ {F : Type 0} (Opens : List ℕ → Result F IoError → Type 0) where
       pub office : IsCopiedOffice log database old
       pub looked : HasLooked (state over_copy old) (state over_copy new)
       pub unverified :
-          IsUnverified text over_copy (kept_of kept) (user_version database) old new why
+          IsUnverified text over_copy (kept_of kept) (least_lines (user_version database))
+          old new why
 
   -- what a call of read gives of one
   module _ (Gives : F → F → Result ℕ IoError → List ℕ → Type 0) (bytes_of : F → Option (List ℕ)) where

@@ -5,7 +5,7 @@ ghost use Rattle.std.specs.Prelude.{IsTrue, OnOk, option_copied};
 ghost use Rattle.sqlite.specs.Held.{state};
 ghost use Rattle.memory_database.specs.Copies.{over_copy};
 ghost use Rattle.office_store.specs.Shown.{IsIdle};
-ghost use Rattle.database_head.specs.Extents.{head_bytes, most_bytes};
+ghost use Rattle.database_files.specs.Extents.{head_bytes, most_bytes};
 ghost use Rattle.reading_commands.specs.Copied.{extent_of, fault_of_read, front_of, Gave};
 ghost use Rattle.reading_commands.specs.Copied.{GaveLog, GaveNone};
 ghost use Rattle.reading_commands.specs.Copied.{HaveGiven, HaveGivenNone, IsCopiedOffice};
@@ -15,11 +15,11 @@ ghost use Rattle.reading_commands.specs.Reading.{HasReadOn};
 use crate::place::Place;
 use crate::reading::read_on;
 use command_host::{CommandFault, PassFiles, fault_of_opening};
-use database_head::{HEAD, MOST, database_extent, log_extent};
+use database_files::{HEAD, MOST, database_extent, log_extent};
 use memory_database::{CopyStore, open_copy};
-use office_desk::Office;
+use office_words::Fault;
 use profile_commands::FileFault;
-use review_policy::Fault;
+use review_office::Office;
 use sqlite::Connection;
 use std::alloc::Global;
 use std::io::ErrorKind;
@@ -178,7 +178,7 @@ pub(crate) fn office_in_copy(
     let Given { log, database } = given;
     let conn = match open_copy(alloc, log, database) {
         Ok(conn) => conn,
-        Err(error) => return Err(CommandFault::Store(fault_of_opening(error))),
+        Err(error) => return Err(fault_of_opening(error)),
     };
     match Office::over(conn) {
         Ok(office) => Ok(office.into_connection()),

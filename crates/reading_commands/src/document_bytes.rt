@@ -12,7 +12,7 @@ use std::alloc::Global;
 use streams::Unread;
 
 /// Why a file gave no bytes.
-#[derive(Clone, Copy, Debug, Drop, PartialEq, Eq)]
+#[derive(Clone, Copy, Drop)]
 pub(crate) enum NoBytes {
     /// It can't be opened.
     Unopened,

@@ -3,7 +3,7 @@
 ghost use Rattle.std.specs.Prelude.{◌≡◌, IfErr, IfOk};
 ghost use Rattle.sqlite.specs.Held.{Held, state};
 ghost use Rattle.office_store.specs.Shown.{IsIdle};
-ghost use Rattle.office_desk.specs.Meant.{meaning_over};
+ghost use Rattle.review_office.specs.Meant.{meaning_over};
 ghost use Rattle.journal_reports.specs.Evidence.{IsEvidence, IsNoEvidence};
 ghost use Rattle.reading_commands.specs.Reports.{FailsToProve, HasProved, IsEvidenceAt};
 ghost use Rattle.reading_commands.specs.Reports.{IsNoEvidenceAt, IsNoProfile};
@@ -15,7 +15,7 @@ use command_line::EvidenceWords;
 use journal_faults::NoEvidence;
 use journal_reports::evidence;
 use memory_database::open_in_memory;
-use review_policy::{ProfileName, Text};
+use office_words::{ProfileName, Text};
 use sqlite::{Alter, Connection};
 use std::alloc::Global;
 use std::io::{BufRead, Write};

@@ -3,7 +3,7 @@
 ghost use Rattle.std.specs.Prelude.{◌≡◌, IfErr, IfOk};
 ghost use Rattle.sqlite.specs.Held.{Held, state};
 ghost use Rattle.office_store.specs.Shown.{IsIdle};
-ghost use Rattle.office_desk.specs.Meant.{meaning_over};
+ghost use Rattle.review_office.specs.Meant.{meaning_over};
 ghost use Rattle.journal_reports.specs.History.{IsUnwritten, IsWritten};
 ghost use Rattle.reading_commands.specs.Reports.{HasNames, IsUntoldAt, NamesNone, WasToldAt};
 ghost use Rattle.reading_commands.specs.Reports.{asked_of};
@@ -14,7 +14,7 @@ use command_line::HistoryWords;
 use journal_faults::Unwritten;
 use journal_reports::{Filter, write_history};
 use memory_database::open_in_memory;
-use review_policy::Word;
+use office_words::Word;
 use sqlite::{Alter, Connection};
 use std::alloc::Global;
 use std::io::{BufRead, Write};

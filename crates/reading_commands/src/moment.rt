@@ -10,7 +10,7 @@ use streams::Counted;
 
 /// How the files of an office and of a journal are at a moment; nothing of one that isn't there, or
 /// isn't regular. It can't be copied: two are of two looks.
-#[derive(Debug, Drop, PartialEq, Eq)]
+#[derive(Drop, PartialEq)]
 pub struct Moment {
     database: Option<Stamp>,
     log: Option<Stamp>,

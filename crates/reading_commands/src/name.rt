@@ -4,7 +4,7 @@ ghost use Rattle.std.specs.Prelude.{◌≡◌, IfErr, IfOk, option_copied};
 ghost use Rattle.reading_commands.specs.Reports.{IsNoName, IsNoWord};
 
 use command_host::CommandFault;
-use review_policy::{Word, WordFault};
+use office_words::{Word, WordFault};
 use std::alloc::Global;
 
 /// The word that a text is.

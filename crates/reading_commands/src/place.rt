@@ -5,7 +5,7 @@ ghost use Rattle.reading_commands.specs.Places.{IsNoPlace, IsPlace};
 
 use command_host::{CommandFault, PassFiles};
 use no_memory::NoMemory;
-use review_policy::Fault;
+use office_words::Fault;
 use std::alloc::Global;
 use std::io::ErrorKind;
 use std::path::PathBuf;

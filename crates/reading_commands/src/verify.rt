@@ -11,10 +11,11 @@ use crate::copied::{bytes_at, office_in_copy};
 use crate::moment::{moment_of, note_change};
 use crate::place::{Place, place_at};
 use command_host::{
-    CommandFault, JournalText, PassFiles, print_bytes, seal_line, text_at, told_of_text,
+    CommandFault, JournalText, PassFiles, least_lines, print_bytes, seal_line, text_at,
+    told_of_text,
 };
 use command_line::VerifyWords;
-use database_head::user_version;
+use database_files::user_version;
 use journal_verification::{KeptSeal, Verified, verify};
 use std::alloc::Global;
 use std::io::Write;
@@ -51,7 +52,7 @@ fn verify_in<F: PassFiles>(
         (reader_remaining (λ noted. F.File.remaining noted.file) text.old) kept) }
 {
     let given = bytes_at(files, alloc, place)?;
-    let mark = user_version(&given.database);
+    let mark = least_lines(user_version(&given.database));
     let mut conn = office_in_copy(alloc, given)?;
     match verify(alloc, &mut *text, &mut conn, kept_of(kept), mark) {
         Ok(verified) => Ok(verified),

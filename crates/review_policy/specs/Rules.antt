@@ -20,9 +20,9 @@ use Rattle.review_policy.specs.declared.denial.Rule.TheVariants.{NotStanding, Au
 use Rattle.review_policy.specs.declared.denial.Rule.TheVariants.{NotIssued, NothingIssued}
 use Rattle.review_policy.specs.declared.denial.Rule.TheVariants.{NoProfile, AlreadyHeld, NotHeld}
 use Rattle.review_policy.specs.declared.denial.Rule.TheVariants.{Held}
-use Rattle.review_policy.specs.declared.revision.TheConstants.{MAX_LISTED, MAX_REVISIONS}
-use Rattle.review_policy.specs.declared.revision.State.{State}
-use Rattle.review_policy.specs.declared.revision.State.TheVariants.{Open, Issued}
+use Rattle.office_words.specs.Limits.{max_revisions}
+use Rattle.office_words.specs.declared.revision.State.{State}
+use Rattle.office_words.specs.declared.revision.State.TheVariants.{Open, Issued}
 use Rattle.review_policy.specs.declared.facts.EnrolFacts.{EnrolFacts}
 use Rattle.review_policy.specs.declared.facts.SubmitFacts.{SubmitFacts}
 use Rattle.review_policy.specs.declared.facts.VoteFacts.{VoteFacts}
@@ -33,14 +33,6 @@ use Rattle.review_policy.specs.declared.facts.ReadFacts.{ReadFacts}
 use Rattle.review_policy.specs.declared.facts.FetchFacts.{FetchFacts}
 use Rattle.review_policy.specs.declared.facts.HoldFacts.{HoldFacts}
 use Rattle.review_policy.specs.declared.facts.RevisionsFacts.{RevisionsFacts}
-
--- the greatest number of revisions of a profile
-abbrev pub max_revisions : ℕ
-max_revisions = MAX_REVISIONS
-
--- the greatest number of revisions in one list of a profile's
-abbrev pub max_listed : ℕ
-max_listed = MAX_LISTED
 
 -- a revision that is there and open
 abbrev pub is_open : Option State → Bool

@@ -7,7 +7,7 @@ ghost use Rattle.review_policy.specs.Acts.{revision_act_of, revision_act_word};
 ghost use Rattle.review_policy.specs.Acts.{revision_view_of, revision_view_word};
 
 /// What is done to a revision.
-#[derive(Clone, Copy, Debug, PartialEq, Eq)]
+#[derive(Clone, Copy)]
 pub enum RevisionAct {
     /// It is issued to hosts.
     Issue,
@@ -18,7 +18,7 @@ pub enum RevisionAct {
 }
 
 /// What an act on a revision does to it: the effect.
-#[derive(Clone, Copy, Debug, PartialEq, Eq)]
+#[derive(Clone, Copy)]
 pub enum Effect {
     /// The revision is issued, and replaces the issued one of its profile.
     Issues,
@@ -29,7 +29,7 @@ pub enum Effect {
 }
 
 /// What is seen of a revision.
-#[derive(Clone, Copy, Debug, PartialEq, Eq)]
+#[derive(Clone, Copy)]
 pub enum RevisionView {
     /// Its text.
     Show,
@@ -38,7 +38,7 @@ pub enum RevisionView {
 }
 
 /// What is done to a profile.
-#[derive(Clone, Copy, Debug, PartialEq, Eq)]
+#[derive(Clone, Copy)]
 pub enum ProfileAct {
     /// It is held back from being issued and fetched.
     Hold,
@@ -47,7 +47,7 @@ pub enum ProfileAct {
 }
 
 /// What is seen of a profile.
-#[derive(Clone, Copy, Debug, PartialEq, Eq)]
+#[derive(Clone, Copy)]
 pub enum ProfileView {
     /// What was issued of it.
     Fetch,

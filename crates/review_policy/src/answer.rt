@@ -3,15 +3,11 @@
 ghost use Rattle.std.specs.Prelude.{◌≡◌};
 
 use crate::denial::Denial;
-use crate::fault::Fault;
-use crate::revision::State;
-use crate::role::Roles;
-use crate::text::Text;
-use crate::word::Word;
+use office_words::{Fault, ProfileRevision, Roles, State, Text, Word};
 use std::marker::Model;
 
 /// A profile in the list of a team's profiles.
-#[derive(Debug, Drop)]
+#[derive(Drop)]
 pub struct ListedProfile {
     /// Its name within the team.
     pub profile: Word,
@@ -24,7 +20,7 @@ pub struct ListedProfile {
 }
 
 /// The profiles of a team, by name.
-#[derive(Debug, Drop)]
+#[derive(Drop)]
 pub struct Listing {
     profiles: Vec<ListedProfile>,
 }
@@ -54,27 +50,15 @@ impl Listing {
     }
 }
 
-/// A revision in a list of a profile's revisions.
-#[derive(Debug, Drop)]
-pub struct ProfileRevision {
-    /// Its number, from 1.
-    pub revision: u32,
-    pub state: State,
-    /// SHA-256 of its text.
-    pub digest: [u8; 32],
-    /// Who handed it in.
-    pub by: Word,
-}
-
 /// Revisions of a profile, the newest first.
-#[derive(Debug, Drop)]
+#[derive(Drop)]
 pub struct RevisionList {
     revisions: Vec<ProfileRevision>,
 }
 
 impl Model for RevisionList {
     ghost use Rattle.std.specs.Prelude.{List};
-    ghost use Rattle.review_policy.specs.declared.answer.ProfileRevision.{ProfileRevision};
+    ghost use Rattle.office_words.specs.declared.listed.ProfileRevision.{ProfileRevision};
 
     ghost Value = { List ProfileRevision };
 
@@ -98,7 +82,7 @@ impl RevisionList {
 }
 
 /// What a request that was done is answered. Digests are of SHA-256; revisions are numbered from 1.
-#[derive(Debug, Drop)]
+#[derive(Drop)]
 pub enum Reply {
     /// There is nothing to tell but that it was done.
     Nothing,
@@ -152,7 +136,7 @@ pub enum Reply {
 }
 
 /// The answer to a request.
-#[derive(Debug, Drop)]
+#[derive(Drop)]
 pub enum Answer {
     /// It was done.
     Done(Reply),

@@ -1,22 +1,11 @@
 //! What is asked of the office.
 
 use crate::act::{ProfileAct, ProfileView, RevisionAct, RevisionView};
-use crate::role::Roles;
-use crate::token::Token;
-use crate::word::Word;
-
-/// A profile, by its team and its own name.
-#[derive(Clone, Debug, Drop)]
-pub struct ProfileName {
-    /// The team that the profile is of.
-    pub team: Word,
-    /// Its name within the team.
-    pub profile: Word,
-}
+use office_words::{ProfileName, Roles, Token, Word};
 
 /// What a request asks for. Digests are of SHA-256; revisions are numbered from 1 to
-/// [`crate::MAX_REVISIONS`].
-#[derive(Debug, Drop)]
+/// [`office_words::MAX_REVISIONS`].
+#[derive(Drop)]
 pub enum Ask {
     /// To enrol a user, or to give an enrolled one these roles and the token of this digest.
     Enrol {
@@ -73,7 +62,7 @@ pub enum Ask {
 }
 
 /// A request: what is asked, and the token that its caller shows.
-#[derive(Debug, Drop)]
+#[derive(Drop)]
 pub struct Request {
     /// What the caller shows to be known.
     pub token: Token,

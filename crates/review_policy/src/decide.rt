@@ -29,12 +29,12 @@ mod vote;
 mod withdraw;
 
 use crate::denial::{Denial, Need, Rule};
-use crate::revision::State;
 pub use adopt::decide_adopt;
 pub use enrol::decide_enrol;
 pub use fetch::decide_fetch;
 pub use hold::decide_hold;
 pub use issue::decide_issue;
+use office_words::State;
 pub use read::decide_read;
 pub use revisions::decide_revisions;
 pub use submit::decide_submit;

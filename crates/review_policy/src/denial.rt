@@ -5,7 +5,7 @@ ghost use Rattle.review_policy.specs.Rules.{approvals_of, asks_security};
 ghost use Rattle.review_policy.specs.WordTables.{rule_word};
 
 /// How many approvals a revision needs to be issued.
-#[derive(Clone, Copy, Debug, PartialEq, Eq)]
+#[derive(Clone, Copy)]
 pub enum Need {
     /// One approval.
     One,
@@ -36,7 +36,7 @@ impl Need {
 }
 
 /// The rules of the policy, each with when it refuses a request.
-#[derive(Clone, Copy, Debug, PartialEq, Eq)]
+#[derive(Clone, Copy)]
 pub enum Rule {
     /// No user's present token is the one that is shown.
     CallerUnknown,
@@ -131,7 +131,7 @@ impl Rule {
 }
 
 /// The first rule that refuses a request.
-#[derive(Clone, Copy, Debug, PartialEq, Eq)]
+#[derive(Clone, Copy)]
 pub struct Denial {
     /// The place of the rule among those of its request, from 1.
     pub number: u8,

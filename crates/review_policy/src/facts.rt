@@ -2,7 +2,7 @@
 //! refuses.
 
 use crate::denial::Need;
-use crate::revision::State;
+use office_words::State;
 
 /// What the rules of enrol ask.
 #[derive(Clone, Copy)]

@@ -2,14 +2,14 @@
 use Rattle.std.proofs.Common.{◌≡◌, ◌∙◌, ℕ, ◌+◌, Bool, true, false, cond, List, [], ◌∷◌, ◌++◌, map, length, refl, sym, ap, append_assoc, codes, decimal, reverse, take}
 use Rattle.std.specs.Prelude.{◌||◌, ◌&&◌, bytes_eq, count_by, fold, not}
 use Rattle.std.proofs.lemmas.List.{length-map, reverse-append}
-use Rattle.review_policy.specs.declared.revision.VoteRow.{VoteRow}
+use Rattle.office_words.specs.declared.revision.VoteRow.{VoteRow}
 use Rattle.widening.specs.declared.finding.Finding.{Finding}
 use Rattle.widening.specs.Findings.{findings_of}
 use Rattle.review_sheet.specs.Facts.{SheetValue}
 use Rattle.review_sheet.specs.Filters.{seccomp_lines}
 use Rattle.review_sheet.specs.Laws.{CountsBelow, CountsVotes, HasPart, indented_first, is_indented, says_approve, says_reject}
 use Rattle.profile_text.specs.Profile.{listed_in}
-use Rattle.review_policy.specs.Votes.{is_approval, is_rejection}
+use Rattle.office_words.specs.Votes.{is_approval, is_rejection}
 use Rattle.review_sheet.specs.Review.{finding_line, findings_lines, need_text, tally_lines, vote_line, vote_word, votes_lines}
 use Rattle.review_sheet.specs.Sets.{caps_lines, set_line}
 use Rattle.review_sheet.specs.Sheet.{head_lines, need_at, need_lines, sheet_lines}

@@ -10,7 +10,7 @@ use Rattle.seccomp_doc.specs.declared.action.Action.TheVariants.{Allow, Errno, K
 use Rattle.seccomp_doc.specs.declared.compare.Op.TheVariants.{GreaterThan, MaskedEqual}
 use Rattle.seccomp_doc.specs.Filter.{FilterValue}
 use Rattle.profile_text.specs.Profile.{closed_profile, no_caps}
-use Rattle.review_policy.specs.declared.revision.State.TheVariants.{Open, Issued}
+use Rattle.office_words.specs.declared.revision.State.TheVariants.{Open, Issued}
 use Rattle.review_sheet.specs.Facts.{SheetValue}
 
 -- ---- without capabilities and without a filter

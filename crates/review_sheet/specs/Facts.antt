@@ -1,8 +1,8 @@
 -- What a review sheet shows of a revision, as plain values.
 use Rattle.std.specs.Prelude.{ℕ, List, Option}
 use Rattle.profile_text.specs.declared.profile.Profile.{Profile}
-use Rattle.review_policy.specs.declared.revision.State.{State}
-use Rattle.review_policy.specs.declared.revision.VoteRow.{VoteRow}
+use Rattle.office_words.specs.declared.revision.State.{State}
+use Rattle.office_words.specs.declared.revision.VoteRow.{VoteRow}
 
 -- the revision, by its team, its profile and its number; where it stands; the digest of its text;
 -- what it is compared with: the adopted revision, by its profile and number, or none, and the

@@ -5,8 +5,8 @@ use Rattle.cap_sets.specs.Capability.{names_of, single}
 use Rattle.profile_text.specs.Sets.{set_name}
 use Rattle.review_policy.specs.declared.denial.Need.{Need}
 use Rattle.review_policy.specs.declared.denial.Need.TheVariants.{One, TwoWithSecurity}
-use Rattle.review_policy.specs.Votes.{is_approval, is_rejection}
-use Rattle.review_policy.specs.declared.revision.VoteRow.{VoteRow}
+use Rattle.office_words.specs.Votes.{is_approval, is_rejection}
+use Rattle.office_words.specs.declared.revision.VoteRow.{VoteRow}
 use Rattle.widening.specs.declared.finding.Finding.{Finding}
 use Rattle.widening.specs.declared.finding.Finding.TheVariants.{Cap, NoSeccomp, AnyArch, Arch, Flag}
 use Rattle.widening.specs.declared.finding.Finding.TheVariants.{Call, Default}

@@ -3,7 +3,7 @@ use Rattle.std.specs.Prelude.{ℕ, List, [], ◌∷◌, ◌++◌, Option, Some, 
 use Rattle.hex.specs.Hex.{encode_lower}
 use Rattle.review_policy.specs.declared.denial.Need.{Need}
 use Rattle.review_policy.specs.Rules.{need_of}
-use Rattle.review_policy.specs.WordTables.{state_word}
+use Rattle.office_words.specs.WordTables.{state_word}
 use Rattle.widening.specs.Findings.{findings_of, is_wider}
 use Rattle.review_sheet.specs.Facts.{SheetValue}
 use Rattle.review_sheet.specs.Layout.{joined}

@@ -1,12 +1,12 @@
 //! What a review sheet shows.
 
 use cap_sets::Caps;
+use office_words::{State, VoteRow, Word};
 use profile_text::Profile;
-use review_policy::{State, VoteRow, Word};
 use std::marker::Model;
 
 /// What a review sheet shows of a revision.
-#[derive(Debug, Drop)]
+#[derive(Drop)]
 pub struct SheetFacts<'a> {
     /// The team of its profile.
     pub team: &'a Word,

@@ -11,7 +11,7 @@ use crate::findings::{push_findings, push_need};
 use crate::layout::{push_count, push_line};
 use crate::sets::push_caps;
 use crate::votes::{push_tally, push_votes};
-use review_policy::Word;
+use office_words::Word;
 use std::alloc::{AllocError, Global};
 use widening::findings;
 

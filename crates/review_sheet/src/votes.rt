@@ -1,13 +1,13 @@
 //! The lines of the votes.
 
 ghost use Rattle.std.specs.Prelude.{◌≡◌, OnOk, count_by, map};
-ghost use Rattle.review_policy.specs.Votes.{is_approval, is_rejection};
+ghost use Rattle.office_words.specs.Votes.{is_approval, is_rejection};
 ghost use Rattle.review_sheet.specs.Layout.{Adds, AddsLines, ended};
 ghost use Rattle.review_sheet.specs.Review.{tally_lines, vote_line, vote_mark, vote_word};
 ghost use Rattle.review_sheet.specs.Review.{votes_lines};
 
 use crate::layout::push_count;
-use review_policy::VoteRow;
+use office_words::VoteRow;
 use std::alloc::AllocError;
 
 /// Adds the votes.

@@ -11,7 +11,7 @@ use std::io;
 use thiserror::Error;
 
 /// Why a log can't be read or written.
-#[derive(Clone, Copy, Debug, Drop, PartialEq, Eq, Error)]
+#[derive(Clone, Copy, Debug, Drop, Error)]
 pub enum LogFault {
     /// There was no memory.
     #[error("memory")]

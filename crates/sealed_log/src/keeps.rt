@@ -17,7 +17,7 @@ pub trait Keeps {
 }
 
 /// Nothing is kept.
-#[derive(Clone, Copy, Debug)]
+#[derive(Clone, Copy)]
 pub struct Nothing;
 
 impl Keeps for Nothing {

@@ -9,7 +9,7 @@ use std::fmt;
 
 /// Why the lines of a log that is read as a stream can't be read on. Its text is one word. Who only
 /// reads sealed bodies never tells `NoEventBefore`, and `NotALine` just of a line that is too long.
-#[derive(Clone, Copy, Debug, Drop, PartialEq, Eq)]
+#[derive(Clone, Copy, Debug, Drop, PartialEq)]
 pub enum Unreadable {
     /// The line is too long, its body is that of none, or it says of another line than the one
     /// before that it is carried out.

@@ -10,7 +10,7 @@ ghost use Rattle.seccomp_doc.specs.Action.{same_action, takes_errno, word_of};
 use crate::fault::FilterFault;
 
 /// The name of an action, without the number that some actions carry.
-#[derive(Clone, Copy, PartialEq, Eq, Debug)]
+#[derive(Clone, Copy)]
 pub enum ActionWord {
     /// `SCMP_ACT_KILL_PROCESS`: the process ends.
     KillProcess,
@@ -72,7 +72,7 @@ impl ActionWord {
 }
 
 /// What becomes of a system call, as seccomp(2) says it.
-#[derive(Clone, Copy, PartialEq, Eq, Debug)]
+#[derive(Clone, Copy, PartialEq)]
 pub enum Action {
     /// The process ends.
     KillProcess,

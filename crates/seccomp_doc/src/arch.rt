@@ -8,7 +8,7 @@ use crate::text::{Form, Formed};
 use crate::word::is_of_length;
 
 /// The form of an architecture: `SCMP_ARCH_` and 1 to 32 of A-Z, 0-9 and underscore.
-#[derive(Clone, Copy, Debug)]
+#[derive(Clone, Copy)]
 pub struct ArchForm;
 
 /// An architecture.

@@ -4,7 +4,7 @@ ghost use Rattle.std.specs.Prelude.{◌≡◌, Some};
 ghost use Rattle.seccomp_doc.specs.Compare.{admits, is_masked, op_named, op_text};
 
 /// How an argument is compared. All comparisons are of unsigned 64-bit numbers.
-#[derive(Clone, Copy, Default, PartialEq, Eq, Debug)]
+#[derive(Clone, Copy, Default)]
 pub enum Op {
     /// `SCMP_CMP_NE`: it isn't the value.
     NotEqual,
@@ -67,7 +67,7 @@ impl Op {
 }
 
 /// A comparison of one argument of a system call, as in seccomp_rule_add(3).
-#[derive(Clone, Copy, Default, PartialEq, Eq, Debug)]
+#[derive(Clone, Copy, Default)]
 pub struct Compare {
     /// Which argument, from 0.
     pub index: u8,

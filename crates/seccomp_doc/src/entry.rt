@@ -22,7 +22,7 @@ use std::marker::Model;
 
 /// The action of some system calls, where their arguments compare as stated. The comparisons must
 /// all hold; two entries of one call are alternatives.
-#[derive(Debug, Drop)]
+#[derive(Drop)]
 pub struct Entry {
     names: Vec<CallName>,
     action: Action,

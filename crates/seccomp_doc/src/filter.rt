@@ -37,7 +37,7 @@ pub const MAX_FLAGS: usize = 64;
 
 /// A filter: what becomes of each system call. All entries of a call have one action, so their
 /// order means nothing.
-#[derive(Debug, Drop)]
+#[derive(Drop)]
 pub struct Filter {
     default: Action,
     architectures: Vec<Arch>,

@@ -8,7 +8,7 @@ use crate::text::{Form, Formed};
 use crate::word::is_of_length;
 
 /// The form of a flag: `SECCOMP_FILTER_FLAG_` and 1 to 32 of A-Z and underscore.
-#[derive(Clone, Copy, Debug)]
+#[derive(Clone, Copy)]
 pub struct FlagForm;
 
 /// A flag.

@@ -9,7 +9,7 @@ use smallvec::SmallVec;
 use std::marker::Model;
 
 /// A comparison as a document has it.
-#[derive(Clone, Copy, Default, PartialEq, Eq, Debug)]
+#[derive(Clone, Copy, Default)]
 pub struct ArgParts {
     /// Which argument, from 0.
     pub index: u64,
@@ -22,7 +22,7 @@ pub struct ArgParts {
 }
 
 /// An entry as a document has it.
-#[derive(Debug, Drop)]
+#[derive(Drop)]
 pub struct EntryParts {
     /// The names of calls.
     pub names: Vec<Text>,
@@ -48,7 +48,7 @@ impl Model for EntryParts {
 }
 
 /// A filter as a document has it.
-#[derive(Debug, Drop)]
+#[derive(Drop)]
 pub struct FilterParts {
     /// The name of the action of a call that no entry matches.
     pub default: ActionWord,

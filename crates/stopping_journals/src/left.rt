@@ -6,7 +6,7 @@ ghost use Rattle.office_store.specs.Shown.{IsIdle};
 use journal::Journaled;
 use journal_faults::NotReopened;
 use journal_office::{Rebuilt, rebuild, reopen};
-use office_desk::Office;
+use review_office::Office;
 use sealed_log::{Seal, SealedLog};
 use sqlite::{Alter, Connection, Files};
 use sqlite_disk::{Disk, Memory};
@@ -60,7 +60,7 @@ fn rebuild_in<S: Alter + Drop>(
 {
     match rebuild(alloc, conn, text, None) {
         Ok(rebuilt) => Ok(rebuilt),
-        Err((refused, _)) => Err(Fail::from(refused)),
+        Err((refused, _)) => Err(Fail::from(refused.to_string(alloc)?)),
     }
 }
 
@@ -147,7 +147,7 @@ fn again_of<S: Alter + Drop>(
 ) -> Result<FoundAgain, Fail> {
     match with_journal(alloc, office, journal) {
         Ok(office) => again_by(alloc, office),
-        Err((why, _, _)) => Err(Fail::from(why)),
+        Err((why, _, _)) => Err(Fail::from(why.to_string(alloc)?)),
     }
 }
 

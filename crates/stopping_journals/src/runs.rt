@@ -1,8 +1,8 @@
 //! An office over two files with its journal in a third: each of the three stops in turn.
 
 use crate::left::{AllTold, Kept, Remains, with_journal};
-use office_desk::Office;
 use office_policy::Handler;
+use review_office::Office;
 use sqlite::{Alter, Connection, FileStore, Files};
 use sqlite_disk::{Crash, Disk, Fuse, Memory};
 use std::alloc::Global;

@@ -48,15 +48,17 @@ fn respond<H: Handler>(
     let mut reader = Counted::new(request.as_bytes());
     let mut writer = Counted::new(written);
     let mut scratch = Scratch::new(alloc);
-    serve_one(
+    match serve_one(
         office,
         alloc,
         &router,
         &mut scratch,
         &mut reader,
         &mut writer,
-    )?;
-    Ok(())
+    ) {
+        Ok(_) => Ok(()),
+        Err(fault) => Err(Fail::from(fault.to_string(alloc)?)),
+    }
 }
 
 fn answer_to_message<H: Handler>(

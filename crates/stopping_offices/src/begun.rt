@@ -4,8 +4,8 @@ ghost use Rattle.std.specs.Prelude.{IfOk};
 ghost use Rattle.sqlite.specs.Held.{state};
 ghost use Rattle.office_store.specs.Shown.{IsIdle};
 
-use office_desk::Office;
 use office_founding::migrate;
+use review_office::Office;
 use sqlite::{Alter, Connection};
 use std::alloc::Global;
 use std::test::Fail;

@@ -2,8 +2,8 @@
 
 use crate::asked::answer_to;
 use crate::begun::{Beginning, before, begin};
-use office_desk::Office;
 use office_policy::Handler;
+use review_office::Office;
 use sqlite::{Alter, Connection};
 use std::alloc::{AllocError, Global};
 use std::test::Fail;

@@ -7,15 +7,17 @@ use cap_sets::Caps;
 use no_memory::NoMemory;
 use office_founding::{FoundingFault, check_office, found, listed, migrate};
 use office_store::{
-    Ballot, add_revision, authors, baseline, delete_hold, has_revision, is_author, is_held, issued,
-    last, put_baseline, put_hold, put_user, put_vote, revision, revisions_of, set_issued,
-    set_withdrawn, standing, tally, user_by_name, user_by_token,
+    Adopted, Ballot, add_revision, authors, baseline, delete_hold, has_revision, is_author,
+    is_held, issued, last, put_baseline, put_hold, put_user, put_vote, revision, revisions_of,
+    set_issued, set_withdrawn, standing, tally, user_by_name, user_by_token,
 };
-use office_tables::{RevisionRow, UserRow};
-use review_policy::{Fault, ProfileName, Roles, State, Text, Word, WordFault};
+use office_words::{
+    Fault, ListedRevision, ProfileName, RevisionRow, Roles, State, Tally, Text, UserRow, VoteRow,
+    Word, WordFault,
+};
 use sqlite::{Alter, Connection};
 use std::alloc::{AllocError, Global};
-use std::fmt::Debug;
+use std::fmt::{Debug, Display};
 
 // What a call is about. What its line leaves out is `-`, or 0.
 #[derive(Drop)]
@@ -112,8 +114,22 @@ fn bits<F>(answer: Result<Caps, F>) -> Result<u64, F> {
     answer.map(|listed| listed.bits())
 }
 
-fn text<T: Debug + Drop>(alloc: Global, answer: T) -> Result<String, AllocError> {
-    format!(in alloc; "{answer:?}")
+fn no_call(alloc: Global) -> Result<String, AllocError> {
+    String::from_str(alloc, "no call")
+}
+
+fn fault_text<F: Display + Drop>(alloc: Global, fault: F) -> Result<String, AllocError> {
+    format!(in alloc; "Err({fault})")
+}
+
+fn text<T: Debug + Drop, F: Display + Drop>(
+    alloc: Global,
+    answer: Result<T, F>,
+) -> Result<String, AllocError> {
+    match answer {
+        Ok(value) => format!(in alloc; "Ok({value:?})"),
+        Err(fault) => fault_text(alloc, fault),
+    }
 }
 
 // The byte that a digest has alone, or 0.
@@ -129,7 +145,8 @@ fn user_text(alloc: Global, answer: Result<Option<UserRow>, Fault>) -> Result<St
             let (name, team, roles) = (user.name.as_str(), user.team.as_str(), user.roles.bits());
             format!(in alloc; "{name} {team} {roles} {}", byte_of(&user.digest))
         }
-        none => text(alloc, none),
+        Ok(None) => String::from_str(alloc, "Ok(None)"),
+        Err(fault) => fault_text(alloc, fault),
     }
 }
 
@@ -147,7 +164,81 @@ fn revision_text(
                 byte_of(&revision.digest)
             )
         }
-        none => text(alloc, none),
+        Ok(None) => String::from_str(alloc, "Ok(None)"),
+        Err(fault) => fault_text(alloc, fault),
+    }
+}
+
+// The names of authors.
+fn authors_text(alloc: Global, answer: Result<Vec<Word>, Fault>) -> Result<String, AllocError> {
+    let names = match answer {
+        Ok(names) => names,
+        Err(fault) => return fault_text(alloc, fault),
+    };
+    let mut text = String::from_str(alloc, "authors")?;
+    for name in names.as_slice() {
+        write!(text, " {}", name.as_str())?;
+    }
+    Ok(text)
+}
+
+// The profile, the number and the state of each revision.
+fn revisions_text(
+    alloc: Global,
+    answer: Result<Vec<ListedRevision>, Fault>,
+) -> Result<String, AllocError> {
+    let rows = match answer {
+        Ok(rows) => rows,
+        Err(fault) => return fault_text(alloc, fault),
+    };
+    let mut text = String::from_str(alloc, "revisions")?;
+    for row in rows.as_slice() {
+        let (profile, state) = (row.profile.as_str(), row.state.word());
+        write!(text, " {profile}/{}/{state}", row.number)?;
+    }
+    Ok(text)
+}
+
+// The voter of each vote, whether it approves, whether with security, and whether it counts.
+fn votes_text(alloc: Global, answer: Result<Vec<VoteRow>, Fault>) -> Result<String, AllocError> {
+    let votes = match answer {
+        Ok(votes) => votes,
+        Err(fault) => return fault_text(alloc, fault),
+    };
+    let mut text = String::from_str(alloc, "votes")?;
+    for vote in votes.as_slice() {
+        let (approve, security, counts) = (vote.approve, vote.security, vote.counts);
+        write!(
+            text,
+            " {}/{approve}/{security}/{counts}",
+            vote.voter.as_str()
+        )?;
+    }
+    Ok(text)
+}
+
+// How many approve, how many of these with security, and how many reject.
+fn tally_text(alloc: Global, answer: Result<Tally, Fault>) -> Result<String, AllocError> {
+    match answer {
+        Ok(tally) => {
+            let (approvals, secure) = (tally.approvals, tally.secure);
+            format!(in alloc; "tally {approvals} {secure} {}", tally.rejections)
+        }
+        Err(fault) => fault_text(alloc, fault),
+    }
+}
+
+// The profile and the number of a baseline.
+fn baseline_text(
+    alloc: Global,
+    answer: Result<Option<Adopted>, Fault>,
+) -> Result<String, AllocError> {
+    match answer {
+        Ok(Some(adopted)) => {
+            format!(in alloc; "baseline {} {}", adopted.profile.as_str(), adopted.number)
+        }
+        Ok(None) => String::from_str(alloc, "Ok(None)"),
+        Err(fault) => fault_text(alloc, fault),
     }
 }
 
@@ -165,7 +256,7 @@ fn office_answer<S: Alter>(
         "check_office" => text(alloc, bits(check_office(conn))),
         "migrate" => text(alloc, migrate(conn)),
         "listed" => text(alloc, bits(listed(conn))),
-        _ => text(alloc, "no call"),
+        _ => no_call(alloc),
     }
 }
 
@@ -183,7 +274,7 @@ fn user_answer<S: Alter>(
         "put_user" => text(alloc, put(conn, subject)),
         "user_by_name" => user_text(alloc, user_by_name(alloc, conn, &subject.name)),
         "user_by_token" => user_text(alloc, user_by_token(alloc, conn, &[subject.byte; 32])),
-        _ => text(alloc, "no call"),
+        _ => no_call(alloc),
     }
 }
 
@@ -203,7 +294,7 @@ fn revision_answer<S: Alter>(
         "revision" => revision_text(alloc, revision(alloc, conn, profile, subject.number)),
         "last" => revision_text(alloc, last(alloc, conn, profile)),
         "issued" => revision_text(alloc, issued(alloc, conn, profile)),
-        _ => text(alloc, "no call"),
+        _ => no_call(alloc),
     }
 }
 
@@ -220,9 +311,9 @@ fn list_answer<S: Alter>(
     let profile = &subject.profile;
     match call {
         "is_author" => text(alloc, is_author(conn, profile, &subject.name)),
-        "authors" => text(alloc, authors(alloc, conn, profile)),
-        "revisions_of" => text(alloc, revisions_of(alloc, conn, &profile.team)),
-        _ => text(alloc, "no call"),
+        "authors" => authors_text(alloc, authors(alloc, conn, profile)),
+        "revisions_of" => revisions_text(alloc, revisions_of(alloc, conn, &profile.team)),
+        _ => no_call(alloc),
     }
 }
 
@@ -241,7 +332,7 @@ fn state_answer<S: Alter>(
         "add_revision" => text(alloc, add(alloc, conn, subject)),
         "set_issued" => text(alloc, set_issued(conn, profile, subject.number)),
         "set_withdrawn" => text(alloc, set_withdrawn(conn, profile, subject.number)),
-        _ => text(alloc, "no call"),
+        _ => no_call(alloc),
     }
 }
 
@@ -271,9 +362,9 @@ fn vote_answer<S: Alter>(
     let (profile, number) = (&subject.profile, subject.number);
     match call {
         "put_vote" => text(alloc, vote(conn, subject)),
-        "standing" => text(alloc, standing(alloc, conn, profile, number)),
-        "tally" => text(alloc, tally(alloc, conn, profile, number)),
-        _ => text(alloc, "no call"),
+        "standing" => votes_text(alloc, standing(alloc, conn, profile, number)),
+        "tally" => tally_text(alloc, tally(alloc, conn, profile, number)),
+        _ => no_call(alloc),
     }
 }
 
@@ -289,12 +380,12 @@ fn profile_answer<S: Alter>(
 {
     let profile = &subject.profile;
     match call {
-        "baseline" => text(alloc, baseline(alloc, conn, &profile.team)),
+        "baseline" => baseline_text(alloc, baseline(alloc, conn, &profile.team)),
         "put_baseline" => text(alloc, put_baseline(conn, profile, subject.number)),
         "held" => text(alloc, is_held(conn, profile)),
         "put_hold" => text(alloc, put_hold(conn, profile)),
         "delete_hold" => text(alloc, delete_hold(conn, profile)),
-        _ => text(alloc, "no call"),
+        _ => no_call(alloc),
     }
 }
 

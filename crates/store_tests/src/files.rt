@@ -25,7 +25,7 @@ ann blue 2 7
 > revision blue web - 1
 1 ann open {} 7
 > baseline blue
-Ok(Some(Adopted { profile: Word { text: \"web\" }, number: 1 }))
+baseline web 1
 > held blue web
 Ok(true)
 
@@ -37,7 +37,7 @@ ann blue 2 7
 > revision blue web - 1
 1 ann open {} 7
 > baseline blue
-Ok(Some(Adopted { profile: Word { text: \"web\" }, number: 1 }))
+baseline web 1
 > held blue web
 Ok(true)
 ";

@@ -2,7 +2,7 @@
 //! each runs.
 
 use crate::transcript::said_over;
-use review_policy::WordFault;
+use office_words::WordFault;
 use sqlite::Connection;
 use std::alloc::Global;
 use std::process::Abort;
@@ -18,10 +18,8 @@ fn said_in_memory(alloc: Global, before: &str, calls: &str) -> Result<String, Wo
 // before it or to the read after it. With ample memory none is, as `writes_run_with_ample_memory` shows.
 fn is_kept(said: &str, before: &str, done: &str, refused: &str) -> bool {
     match said.strip_prefix(before) {
-        Some(rest) => rest == done
-            || rest == refused
-            || rest.ends_with("Err(NoMemory(NoMemory { refused: AllocError }))\n"),
-        None => said.contains("NoMemory"),
+        Some(rest) => rest == done || rest == refused || rest.ends_with("Err(memory)\n"),
+        None => said.contains("Err(memory)"),
     }
 }
 
@@ -49,7 +47,7 @@ ann blue 4 8
 
 const HAS_NO_ROLE: &str = "\
 > put_user blue - ann 4 8
-Err(NoMemory(NoMemory { refused: AllocError }))
+Err(memory)
 > user_by_name - - ann
 ann blue 0 7
 ";
@@ -75,7 +73,7 @@ Ok(2)
 
 const IS_OPEN: &str = "\
 > add_revision blue web ann
-Err(NoMemory(NoMemory { refused: AllocError }))
+Err(memory)
 > revision blue web - 1
 1 ann open {} 7
 ";

@@ -24,7 +24,7 @@ Ok(2097152)
 > listed
 Ok(2097152)
 > found
-Err(AlreadyFounded)
+Err(already-founded)
 
 # It is founded with its first user.
 > found
@@ -37,81 +37,81 @@ root ops 1 1
 # It is founded where no table of an office is, whatever the case of its name.
 > sql CREATE TABLE Holds (name TEXT) STRICT
 > found
-Err(AlreadyFounded)
+Err(already-founded)
 
 # It is founded where no other table is.
 > sql CREATE TABLE notes (name TEXT) STRICT
 > found
-Err(Store(NotAnOffice))
+Err(not-an-office)
 
 # An empty store is no office.
 > check_office
-Err(Store(NotAnOffice))
+Err(not-an-office)
 
 # Nor is one without a table,
 > found
 Ok(())
 > sql DROP TABLE holds
 > check_office
-Err(Store(NotAnOffice))
+Err(not-an-office)
 
 # with another table,
 > found
 Ok(())
 > sql DROP TABLE votes; CREATE TABLE votes (team TEXT, profile TEXT, number INTEGER, voter TEXT, approve INTEGER) STRICT
 > check_office
-Err(Store(NotAnOffice))
+Err(not-an-office)
 
 # without the row of the office,
 > found
 Ok(())
 > sql DELETE FROM office
 > check_office
-Err(Store(NotAnOffice))
+Err(not-an-office)
 
 # with one of another schema,
 > found
 Ok(())
 > sql UPDATE office SET schema = 3
 > check_office
-Err(Store(NotAnOffice))
+Err(not-an-office)
 
 # under another key,
 > found
 Ok(())
 > sql UPDATE office SET key = 2
 > check_office
-Err(Store(NotAnOffice))
+Err(not-an-office)
 
 # or with a capability listed that there isn't.
 > found
 Ok(())
 > sql UPDATE office SET listed = 2199023255552
 > check_office
-Err(Store(NotAnOffice))
+Err(not-an-office)
 
 # One of schema 1 is old, with the table of held profiles or without it, and one of schema 2 lacks what isn't there.
 > found
 Ok(())
 > sql DROP INDEX revisions_by_author
 > check_office
-Err(NoIndex)
+Err(no-index)
 > sql DROP TABLE holds
 > check_office
-Err(Store(NotAnOffice))
+Err(not-an-office)
 > sql UPDATE office SET schema = 1
 > check_office
-Err(OldSchema)
+Err(old-schema)
 > sql DROP TABLE votes
 > check_office
-Err(Store(NotAnOffice))
+Err(not-an-office)
 
 # A number below 0 lists none.
 > found
 Ok(())
 > sql UPDATE office SET listed = -1
 > check_office
-Err(Store(NotAnOffice))
+Err(not-an-office)
 ";
 
 #[test]
@@ -150,7 +150,7 @@ Ok(())
 > put_user blue - ann 2 7
 Ok(())
 > put_user blue - eve 4 7
-Err(Disk)
+Err(disk)
 > user_by_name - - eve
 Ok(None)
 
@@ -202,7 +202,7 @@ Ok(())
 > put_baseline blue web - 2
 Ok(())
 > baseline blue
-Ok(Some(Adopted { profile: Word { text: \"web\" }, number: 2 }))
+baseline web 2
 
 # A hold is released.
 > found
@@ -245,7 +245,7 @@ Ok(2)
 > add_revision blue web zoe
 Ok(3)
 > authors blue web
-Ok([Word { text: \"ann\" }, Word { text: \"zoe\" }])
+authors ann zoe
 
 # An author is one of a profile.
 > found
@@ -273,7 +273,7 @@ Ok(2)
 > add_revision blue api ann
 Ok(1)
 > revisions_of blue
-Ok([ListedRevision { profile: Word { text: \"api\" }, number: 1, state: Open }, ListedRevision { profile: Word { text: \"web\" }, number: 1, state: Closed }, ListedRevision { profile: Word { text: \"web\" }, number: 2, state: Open }])
+revisions api/1/open web/1/closed web/2/open
 
 # A vote counts by the present roles of its voter. Sue approves the first revision, with security, after she rejected it, and ray
 # rejects it. Then they are enrolled anew, and of the roles of sue security is taken, then review, and of ray all.
@@ -288,29 +288,29 @@ Ok(())
 > put_user blue - ray 4 2
 Ok(())
 > tally blue web - 1
-Ok(Tally { approvals: 0, secure: 0, rejections: 1 })
+tally 0 0 1
 > put_user blue - sue 12 3
 Ok(())
 > tally blue web - 1
-Ok(Tally { approvals: 1, secure: 1, rejections: 1 })
+tally 1 1 1
 > put_user blue - sue 4 3
 Ok(())
 > tally blue web - 1
-Ok(Tally { approvals: 1, secure: 0, rejections: 1 })
+tally 1 0 1
 > put_user blue - sue 8 3
 Ok(())
 > tally blue web - 1
-Ok(Tally { approvals: 0, secure: 0, rejections: 1 })
+tally 0 0 1
 > put_user blue - ray 0 2
 Ok(())
 > tally blue web - 1
-Ok(Tally { approvals: 0, secure: 0, rejections: 0 })
+tally 0 0 0
 > put_user blue - sue 12 3
 Ok(())
 > tally blue web - 1
-Ok(Tally { approvals: 1, secure: 1, rejections: 0 })
+tally 1 1 0
 > standing blue web - 1
-Ok([VoteRow { voter: Word { text: \"ray\" }, approve: false, security: false, counts: false }, VoteRow { voter: Word { text: \"sue\" }, approve: true, security: true, counts: true }])
+votes ray/false/false/false sue/true/true/true
 
 # A vote's columns are 0 or 1.
 > found
@@ -319,15 +319,15 @@ Ok(())
 Ok(())
 > sql UPDATE votes SET approve = 2
 > standing blue web - 1
-Err(NotAnOffice)
+Err(not-an-office)
 > tally blue web - 1
-Err(NotAnOffice)
+Err(not-an-office)
 > sql UPDATE votes SET approve = 1, security = -1
 > standing blue web - 1
-Err(NotAnOffice)
+Err(not-an-office)
 > sql UPDATE votes SET security = 0
 > standing blue web - 1
-Ok([VoteRow { voter: Word { text: \"sue\" }, approve: true, security: false, counts: false }])
+votes sue/true/false/false
 ";
 
 #[test]

@@ -5,7 +5,7 @@ ghost use Rattle.sqlite.specs.Held.{state};
 ghost use Rattle.office_store.specs.Shown.{IsIdle};
 
 use crate::call::told;
-use review_policy::WordFault;
+use office_words::WordFault;
 use sqlite::{Alter, Connection};
 use std::alloc::Global;
 use std::process::Abort;

@@ -10,7 +10,7 @@ use crate::{Counted, SomeRead};
 use std::io::Read;
 
 /// What is found in a stream.
-#[derive(Clone, Copy, Debug, PartialEq, Eq)]
+#[derive(Clone, Copy, Debug, PartialEq)]
 pub enum Found {
     /// A whole line is held.
     Line,

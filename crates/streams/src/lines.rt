@@ -23,7 +23,7 @@ pub const MAX_LINE: usize = 300_000;
 const ROOM: usize = MAX_LINE + 1;
 
 /// A line has more than [`MAX_LINE`] bytes, which were dropped.
-#[derive(Clone, Copy, Debug, Drop, PartialEq, Eq, Error)]
+#[derive(Clone, Copy, Debug, Drop, Error)]
 #[error("too-long")]
 pub struct TooLong;
 

@@ -8,7 +8,7 @@ use crate::step::{ReadStep, read_step};
 use std::io::Read;
 
 /// What came of reading some bytes.
-#[derive(Clone, Copy, Debug, PartialEq, Eq)]
+#[derive(Clone, Copy, Debug, PartialEq)]
 pub enum SomeRead {
     /// This many bytes, at least one.
     Bytes(usize),

@@ -8,7 +8,7 @@ use crate::counted::{Counted, is_interrupted};
 use std::io::Read;
 
 /// What came of a call of read.
-#[derive(Clone, Copy, Debug, PartialEq, Eq)]
+#[derive(Clone, Copy, Debug, PartialEq)]
 pub enum ReadStep {
     /// This many bytes, at least one.
     Bytes(usize),

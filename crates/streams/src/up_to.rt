@@ -16,7 +16,7 @@ use thiserror::Error;
 const CHUNK: usize = 4096;
 
 /// Why bytes weren't read.
-#[derive(Clone, Copy, Debug, Drop, PartialEq, Eq, Error)]
+#[derive(Clone, Copy, Debug, Drop, PartialEq, Error)]
 pub enum Unread {
     /// The reader failed.
     #[error("read")]

@@ -10,7 +10,7 @@ use std::io::Write;
 use thiserror::Error;
 
 /// A writer failed, so that a text was not written whole.
-#[derive(Clone, Copy, Debug, Drop, PartialEq, Eq, Error)]
+#[derive(Clone, Copy, Debug, Drop, PartialEq, Error)]
 #[error("write")]
 pub struct WriteFailed;
 

@@ -4,6 +4,5 @@
 pub mod clock;
 pub mod conversations;
 pub mod fake_streams;
-pub mod given_files;
 pub mod long_texts;
 pub mod messages;

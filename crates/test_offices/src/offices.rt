@@ -5,9 +5,9 @@ ghost use Rattle.sqlite.specs.Held.{state};
 ghost use Rattle.office_store.specs.Shown.{IsIdle};
 
 use cap_sets::Caps;
-use office_desk::Office;
 use office_founding::FoundingFault;
-use review_policy::{Word, digest_from_hex};
+use office_words::{Word, digest_from_hex};
+use review_office::Office;
 use sqlite::{Alter, Connection, MemStore};
 use std::alloc::Global;
 use std::test::Fail;
@@ -18,22 +18,22 @@ const DIGEST: &str = "ba7816bf8f01cfea414140de5dae2223b00361a396177a9cb410ff61f2
 /// What a founding answers.
 pub type Founded<S> = Result<Office<S>, (FoundingFault, Connection<S>)>;
 
-/// Whom an office is founded with, and what it lists.
+// Whom an office is founded with, and what it lists.
 #[derive(Drop)]
-pub struct Founding {
-    /// The first user.
-    pub name: Word,
-    /// The team of that user.
-    pub team: Word,
-    /// The SHA-256 of the token that the user shows.
-    pub digest: [u8; 32],
-    /// The listed capabilities.
-    pub listed: Caps,
+struct Founding {
+    // The first user.
+    name: Word,
+    // The team of that user.
+    team: Word,
+    // The SHA-256 of the token that the user shows.
+    digest: [u8; 32],
+    // The listed capabilities.
+    listed: Caps,
 }
 
-/// The founding of an office whose first user is root of the team office, with the one listed
-/// capability CAP_SYS_ADMIN.
-pub fn trial_founding(alloc: Global) -> Result<Founding, Fail> {
+// The founding of an office whose first user is root of the team office, with the one listed
+// capability CAP_SYS_ADMIN.
+fn trial_founding(alloc: Global) -> Result<Founding, Fail> {
     let (Some(digest), Some(listed)) = (digest_from_hex(DIGEST), Caps::from_name("CAP_SYS_ADMIN"))
     else {
         return Err(Fail::from("a founding"));

@@ -1,6 +1,6 @@
 //! What the desk does in an office.
 
-use desk::{DeskFault, desk};
+use desk_lines::{DeskFault, desk};
 use office_policy::Handler;
 use std::alloc::Global;
 use std::io::{Read, Write};
@@ -19,7 +19,7 @@ pub struct End {
     pub failed_writes: u64,
 }
 
-/// Has the desk serve a stream, and hands the writer back.
+/// Has the desk serve a stream, and hands the writer back. What it notes is dropped.
 pub fn serve<H: Handler, R: Read + Drop, W: Write + Drop>(
     alloc: Global,
     office: &mut H,
@@ -28,7 +28,8 @@ pub fn serve<H: Handler, R: Read + Drop, W: Write + Drop>(
 ) -> (End, W) {
     let mut reader = Counted::new(reader);
     let mut writer = Counted::new(writer);
-    let ended = desk(office, alloc, &mut reader, &mut writer);
+    let mut errors = Counted::new(Vec::<u8>::new(alloc));
+    let ended = desk(office, alloc, &mut reader, &mut writer, &mut errors);
     let end = End {
         result: ended.answered,
         reads: reader.calls(),

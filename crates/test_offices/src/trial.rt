@@ -2,8 +2,8 @@
 
 use crate::offices::trial_office;
 use crate::tables::tables_of;
-use office_desk::Office;
 use office_policy::Handler;
+use review_office::Office;
 use review_policy::{Answer, Request};
 use sqlite::MemStore;
 use std::alloc::Global;

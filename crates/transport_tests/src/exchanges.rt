@@ -5,6 +5,5 @@ mod limits;
 mod loopback;
 mod memory;
 mod queue;
-mod review;
 mod stops;
 mod trial;

@@ -1,6 +1,6 @@
 //! What no transcript shows of lines, lists of requests and exchanges over HTTP, tried by the public calls over an office in memory:
 //! streams that come in pieces, stop or fail, memory that is refused, deadlines, clients that wait, and sockets over loopback. What
-//! requests are answered is shown by the transcripts of `office_transcripts`.
+//! requests are answered stands in `tests/transcripts`.
 #![tactic(auto)]
 
 #[cfg(test)]

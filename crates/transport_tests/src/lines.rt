@@ -1,8 +1,6 @@
 //! The desk: lines of requests, and lists of them.
 
 mod conversations;
-mod in_step;
-mod largest;
 mod memory;
 mod requests;
 mod stops;

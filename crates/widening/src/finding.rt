@@ -4,7 +4,7 @@ use profile_text::CapSet;
 use seccomp_doc::{Arch, CallName, ScmpFlag};
 
 /// Something that a new profile permits, or may permit, and its baseline doesn't.
-#[derive(Debug, Drop)]
+#[derive(Drop)]
 pub enum Finding {
     /// The set has the capability of this number, 0 to 40 as in `linux/capability.h`, and the
     /// baseline's hasn't.

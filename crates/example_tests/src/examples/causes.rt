@@ -5,7 +5,7 @@ ghost use Rattle.review_policy.specs.declared.ask.Request.{Request};
 ghost use Rattle.review_policy.specs.declared.answer.Answer.TheVariants.{Fault};
 ghost use Rattle.review_policy.specs.declared.answer.Reply.{Reply};
 ghost use Rattle.review_policy.specs.declared.denial.Denial.{Denial};
-ghost use Rattle.review_policy.specs.declared.fault.Fault.TheVariants as faults;
+ghost use Rattle.office_words.specs.declared.fault.Fault.TheVariants as faults;
 ghost use Rattle.office_policy.specs.Handled.{HasCause, HasRisen, IsUnwritten, LacksMemory};
 ghost use Rattle.office_policy.specs.Handled.{LeavesUndone, Survives};
 ghost use Rattle.office_policy.specs.History.{Event, History};

@@ -3,7 +3,7 @@
 ghost use Rattle.std.specs.Prelude.{◌∷◌, [], None, Some};
 ghost use Rattle.sqlite.specs.Held.{Held};
 ghost use Rattle.no_memory.specs.Witness.{witness};
-ghost use Rattle.office_desk.specs.Meant.{meaning_over};
+ghost use Rattle.review_office.specs.Meant.{meaning_over};
 ghost use Rattle.journal_faults.specs.declared.refused.Why.TheVariants.{NotFounded};
 ghost use Rattle.journal_faults.specs.declared.unwritten.Unwritten.TheVariants.{NoMemory, Refused, Write};
 ghost use Rattle.journal_reports.specs.History.{IsUnwritten};

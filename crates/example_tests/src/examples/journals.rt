@@ -4,8 +4,8 @@ ghost use Rattle.std.specs.Prelude.{◌≡◌, ℕ, List, [], ◌∷◌, Option,
 ghost use Rattle.review_policy.specs.declared.answer.Answer.TheVariants.{Done, Denied, Fault};
 ghost use Rattle.review_policy.specs.declared.answer.Reply.{Reply};
 ghost use Rattle.review_policy.specs.declared.denial.Denial.{Denial};
-ghost use Rattle.review_policy.specs.declared.fault.Fault.{Fault as TheFault};
-ghost use Rattle.review_policy.specs.declared.fault.Fault.TheVariants as faults;
+ghost use Rattle.office_words.specs.declared.fault.Fault.{Fault as TheFault};
+ghost use Rattle.office_words.specs.declared.fault.Fault.TheVariants as faults;
 ghost use Rattle.office_policy.specs.Handled.{AddsBy};
 ghost use Rattle.office_policy.specs.Meaning.{entry_of, no_entry, struck_entry_of};
 ghost use Rattle.office_policy.specs.Verdict.{Verdict, accepted};

@@ -9,7 +9,7 @@ ghost use Rattle.journal_office.specs.Mending.{IsMended, SaysOther};
 ghost use Rattle.journal_office.specs.Opening.{IsHandedBack, IsReopened};
 ghost use Rattle.journal_faults.specs.declared.not_reopened.NotReopened.{NotReopened};
 ghost use Rattle.journal_faults.specs.declared.not_reopened.NotReopened.TheVariants as whys;
-ghost use Rattle.review_policy.specs.declared.fault.Fault.TheVariants as faults;
+ghost use Rattle.office_words.specs.declared.fault.Fault.TheVariants as faults;
 ghost use Rattle.example_tests.specs.Examples.{IsAfter, enrols, founds, founding};
 ghost use Rattle.example_tests.specs.JournalExamples.{first_line, first_lines, HasBodies, HasMet};
 ghost use Rattle.example_tests.specs.JournalExamples.{IsCleanOffice, IsUnclean, MayLeaveNothing};

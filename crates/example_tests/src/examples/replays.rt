@@ -2,11 +2,11 @@
 
 ghost use Rattle.std.specs.Prelude.{Ok, Err};
 ghost use Rattle.review_policy.specs.declared.denial.Denial.{Denial};
-ghost use Rattle.review_policy.specs.declared.fault.Fault.TheVariants as faults;
+ghost use Rattle.office_words.specs.declared.fault.Fault.TheVariants as faults;
 ghost use Rattle.office_policy.specs.History.{Event};
-ghost use Rattle.office_desk.specs.declared.replay.Unreplayed.TheVariants as causes;
-ghost use Rattle.office_desk.specs.Looking.{IsMetBetween};
-ghost use Rattle.office_desk.specs.Replayed.{IsRefused, IsReplayed};
+ghost use Rattle.review_office.specs.declared.replay.Unreplayed.TheVariants as causes;
+ghost use Rattle.review_office.specs.Looking.{IsMetBetween};
+ghost use Rattle.review_office.specs.Replayed.{IsRefused, IsReplayed};
 ghost use Rattle.example_tests.specs.Examples.{Sketch, counting, grown, shut, enrols, founds};
 ghost use Rattle.example_tests.specs.Examples.{quiet, refusing};
 ghost use Rattle.no_memory.specs.Witness.{witness};

@@ -3,9 +3,9 @@
 ghost use Rattle.std.specs.Prelude.{◌≡◌, ◌≤◌, true, false};
 ghost use Rattle.sqlite.specs.Held.{Held, state};
 ghost use Rattle.sqlite.specs.State.{HasCleanDisk};
-ghost use Rattle.review_policy.specs.declared.fault.Fault.{Fault};
-ghost use Rattle.review_policy.specs.declared.fault.Fault.TheVariants as faults;
-ghost use Rattle.office_tables.specs.Tables.{Tables};
+ghost use Rattle.office_words.specs.declared.fault.Fault.{Fault};
+ghost use Rattle.office_words.specs.declared.fault.Fault.TheVariants as faults;
+ghost use Rattle.office_words.specs.Tables.{Tables};
 ghost use Rattle.office_rows.specs.Statements.{HasMet};
 ghost use Rattle.office_store.specs.Schema.{no_schema, office_schema};
 ghost use Rattle.office_store.specs.Shown.{Shows};
@@ -19,8 +19,8 @@ ghost use Rattle.office_founding.specs.Migration.{FailsToMigrate, IsOldOffice, M
 ghost use Rattle.office_policy.specs.Examples.{held_when_issued, releases};
 ghost use Rattle.office_policy.specs.History.{Event, History};
 ghost use Rattle.office_policy.specs.TablesOf.{tables_of};
-ghost use Rattle.office_desk.specs.Meant.{meaning_over};
-ghost use Rattle.office_desk.specs.Opened.{IsHandedBack};
+ghost use Rattle.review_office.specs.Meant.{meaning_over};
+ghost use Rattle.review_office.specs.Opened.{IsHandedBack};
 ghost use Rattle.example_tests.specs.Examples.{IsAfter, IsAtRest, first_row, refusal};
 ghost use Rattle.no_memory.specs.Witness.{witness};
 

@@ -5,7 +5,7 @@ ghost use Rattle.no_memory.specs.Witness.{witness};
 ghost use Rattle.review_policy.specs.declared.answer.Answer.{Answer};
 ghost use Rattle.review_policy.specs.declared.answer.Answer.TheVariants as answers;
 ghost use Rattle.review_policy.specs.declared.ask.Request.{Request};
-ghost use Rattle.review_policy.specs.declared.fault.Fault.TheVariants as faults;
+ghost use Rattle.office_words.specs.declared.fault.Fault.TheVariants as faults;
 ghost use Rattle.sealed_log.specs.Sealed.{IsBody};
 ghost use Rattle.journal.specs.Journals.{IsStray, IsTakenBack, IsUndone, with_office};
 ghost use Rattle.journal.specs.Lines.{happened, text_of};

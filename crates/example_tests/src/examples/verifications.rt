@@ -5,7 +5,7 @@ ghost use Rattle.sqlite.specs.Held.{Held, state};
 ghost use Rattle.office_policy.specs.Handled.{Stands};
 ghost use Rattle.office_policy.specs.TablesOf.{tables_of};
 ghost use Rattle.office_store.specs.Shown.{Shows, office_row};
-ghost use Rattle.office_desk.specs.Meant.{meaning_over};
+ghost use Rattle.review_office.specs.Meant.{meaning_over};
 ghost use Rattle.journal_verification.specs.KeptSeals.{HaveSeal};
 ghost use Rattle.journal_faults.specs.declared.difference.Difference.TheVariants as difference;
 ghost use Rattle.journal_verification.specs.Verified.{HasOtherSeal, IsAhead, IsOther, IsVerified};

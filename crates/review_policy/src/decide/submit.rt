@@ -6,7 +6,7 @@ ghost use Rattle.review_policy.specs.Rules.{known_denial, submit_rules};
 use super::first_denial;
 use crate::denial::{Denial, Rule};
 use crate::facts::SubmitFacts;
-use crate::revision::MAX_REVISIONS;
+use office_words::MAX_REVISIONS;
 
 /// Whether a document may be handed in, or the first rule that refuses it.
 pub fn decide_submit(facts: &SubmitFacts) -> Result<(), Denial>

@@ -46,7 +46,7 @@ fn send_until_refused(rt: &impl Abort, trial: &mut Trial) -> Result<usize, Fail>
 
 // With each allocation refused in turn, as by `rt try --test --fail-alloc N`: at most one exchange is answered as out of memory and
 // does nothing, or has no response and was done; each other is as with ample memory. With ample memory none is, as
-// `exchanges::review` sees.
+// `exchanges.http` of `tests/transcripts` shows.
 #[test]
 fn out_of_memory_is_answered_and_does_nothing(rt: HostRuntime) -> Result<(), Fail> {
     let mut trial = Trial::new(rt.alloc())?;

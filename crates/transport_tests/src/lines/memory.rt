@@ -2,7 +2,7 @@
 
 use crate::lines::texts::{FIRST_ANSWERS, FIRST_PATH, SECOND_ANSWERS, first_lines};
 use crate::lines::turns::{WHOLE, take_turn};
-use desk::DeskFault;
+use desk_lines::DeskFault;
 use std::alloc::Global;
 use std::test::Fail;
 use test_doubles::fake_streams::{Sink, Taking};

@@ -5,7 +5,7 @@ use crate::lines::texts::{
     SUBMITTED, first_lines,
 };
 use crate::lines::turns::{WHOLE, take_turn, take_turn_anew};
-use desk::{DeskFault, MAX_READS};
+use desk_lines::{DeskFault, MAX_READS};
 use no_memory::NoMemory;
 use std::alloc::Global;
 use std::process::Abort;

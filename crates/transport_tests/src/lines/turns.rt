@@ -1,6 +1,6 @@
 //! Streams that the desk serves in turn.
 
-use desk::DeskFault;
+use desk_lines::DeskFault;
 use std::alloc::Global;
 use std::process::Abort;
 use std::test::Fail;

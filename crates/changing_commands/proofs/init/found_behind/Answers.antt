@@ -1,4 +1,5 @@
-use Rattle.std.proofs.Common.{inl, inr}
+use Rattle.std.proofs.Common.{◌∙◌, ap, inl, inr, subst}
+use Rattle.sealed_log.specs.declared.log.SealedLog.{SealedLog}
 use Rattle.changing_commands.proofs.KeptFacts.{behind_open, founded_behind}
 use Rattle.changing_commands.proofs.init.found_behind.Goals as goal
 
@@ -14,8 +15,17 @@ returns-in-Ok-clause-failed g c =
 
 pub returns-in-Err-clause-failed : goal.returns-in-Err-clause-failed
 returns-in-Err-clause-failed g c =
+    let refusal = c.in-Err.ensures.refused in
     inr (record {
       log = c.in_ok-log.log;
       journal = c.in_ok-log.ensures.begun;
-      office = inl (c.in-Err.ensures.refused, (c.remove.result, c.remove.ensures));
+      office =
+          inl (
+            refusal.1,
+            (
+              c.remove.result,
+              subst (λ (disk : _). g.J.Journals.removes c.args.journals.now c.args.journal.now disk c.remove.result)
+                  (c.into_disk.ensures ∙ ap (λ (log : SealedLog _ g.J.File.Disk). log.disk) refusal.0) c.remove.ensures,
+            ),
+          );
     })

@@ -1,14 +1,16 @@
-use Rattle.command_host.proofs.OpenedFacts.{opened_office}
+use Rattle.std.proofs.Common.{rules, ◌≡◌, Err, inl}
+use Rattle.command_host.proofs.OpenedFacts.{fault_over, opened_over}
 use Rattle.command_host.proofs.opening.office_at.Goals as goal
 
-pub returns-in-Ok-over-clause-opened : goal.returns-in-Ok-over-clause-opened
-returns-in-Ok-over-clause-opened g c = opened_office g.S.Store (g.D.Databases.opened c.args.path.now) c.in-Ok.conn c.in-Ok-over.office c.in-Ok.ensures.opened c.in-Ok-over.ensures.over
+pub returns-in_err-conn-clause-fault : goal.returns-in_err-conn-clause-fault
+returns-in_err-conn-clause-fault g c =
+    let told : c.from_residual.result ≡ Err c.in_err-conn.field-0.0 = search rules in
+    rw told (inl c.in_err-conn.ensures.fault)
 
-pub returns-in-Err-over-clause-fault : goal.returns-in-Err-over-clause-fault
-returns-in-Err-over-clause-fault g c = (
-  c.in-Ok.conn,
-  c.in-Err-over.conn,
-  c.in-Ok.ensures.opened,
-  record { foreign = c.in-Err-over.ensures.foreign; told = c.in-Err-over.ensures.told },
-  (c.close.result, c.close.ensures.ended),
-)
+pub returns-clause-opened : goal.returns-clause-opened
+returns-clause-opened g c =
+    opened_over g.S.Store (g.D.Databases.opened c.args.path.now) c.in_ok-conn.conn c.in_ok-conn.ensures.opened c.office_over.result c.office_over.ensures.over
+
+pub returns-clause-fault : goal.returns-clause-fault
+returns-clause-fault g c =
+    fault_over g.S.Store g.D.Databases c.args.path.now c.in_ok-conn.conn c.in_ok-conn.ensures.opened c.office_over.result c.office_over.ensures.fault

@@ -1,6 +1,6 @@
 use Rattle.std.proofs.Common.{option_map}
 use Rattle.office_policy.specs.Happened.{event_meant}
-use Rattle.office_desk.specs.Meant.{meaning_over}
+use Rattle.review_office.specs.Meant.{meaning_over}
 use Rattle.journal.specs.Writers.{writers_meant}
 use Rattle.journal_office.specs.Mending.{Asks}
 use Rattle.journal_office.proofs.AskFacts.{answered, leaves_both, not_answered, not_looked}

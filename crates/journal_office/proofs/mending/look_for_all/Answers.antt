@@ -1,6 +1,6 @@
 use Rattle.std.proofs.Common.{◌∙◌, Ok, Err, ap, not}
 use Rattle.office_policy.proofs.SurvivalFacts.{left_itself}
-use Rattle.office_desk.specs.Meant.{meaning_over}
+use Rattle.review_office.specs.Meant.{meaning_over}
 use Rattle.journal.specs.Writers.{ShowsIf, ShowsWriters, boxed_meant, writers_meant}
 use Rattle.journal_office.specs.Mending.{LooksFor}
 use Rattle.journal_office.proofs.AskFacts.{Five, Four, are_all, in_order, leaves_both, looks_as, looks_then, looks_wider, no_user}

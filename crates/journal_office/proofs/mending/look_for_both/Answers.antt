@@ -1,4 +1,4 @@
-use Rattle.office_desk.specs.Meant.{meaning_over}
+use Rattle.review_office.specs.Meant.{meaning_over}
 use Rattle.journal.specs.Writers.{ShowsIf, boxed_meant}
 use Rattle.journal_office.specs.Mending.{LooksFor}
 use Rattle.journal_office.proofs.AskFacts.{leaves_both, looks_then, looks_wider}

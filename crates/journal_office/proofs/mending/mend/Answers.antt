@@ -2,7 +2,7 @@ use Rattle.std.proofs.Common.{[], ◌∙◌, option_map, refl, subst, sym}
 use Rattle.sealed_log.specs.Told.{told}
 use Rattle.sealed_log.proofs.FaultFacts.{later_itself}
 use Rattle.office_policy.specs.Happened.{event_meant}
-use Rattle.office_desk.specs.Meant.{meaning_over}
+use Rattle.review_office.specs.Meant.{meaning_over}
 use Rattle.journal.specs.Kept.{IsKept, keeps}
 use Rattle.journal.specs.Writers.{writers_meant}
 use Rattle.journal_faults.specs.Faults.{line_fault, log_fault}

@@ -1,6 +1,6 @@
 use Rattle.std.proofs.Common.{inr, option_map}
 use Rattle.office_policy.specs.Happened.{event_meant}
-use Rattle.office_desk.specs.Meant.{meaning_over}
+use Rattle.review_office.specs.Meant.{meaning_over}
 use Rattle.journal.specs.Writers.{writers_meant}
 use Rattle.journal_office.specs.Mending.{Mends}
 use Rattle.journal_office.proofs.MendFacts.{by_file, left_with, log_outside, not_asked, not_cut, not_struck, same_bodies, stays_settled, stays_shown, struck_out}

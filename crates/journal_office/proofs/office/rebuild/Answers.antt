@@ -1,5 +1,5 @@
 use Rattle.std.proofs.Common.{rules, ◌≡◌, Err, ◌∙◌, ℕ, List, sym, subst}
-use Rattle.office_desk.specs.Meant.{meaning_over}
+use Rattle.review_office.specs.Meant.{meaning_over}
 use Rattle.journal.specs.Told.{place, placed_meant}
 use Rattle.journal.proofs.SeenFacts.{seen_asked}
 use Rattle.journal_office.specs.Rebuilt.{IsRebuilt, IsRefused}

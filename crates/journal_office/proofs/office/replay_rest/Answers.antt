@@ -1,6 +1,6 @@
 use Rattle.std.proofs.Common.{arith, refl, ◌∷◌, [], None, Ok, Err, Result, IfOk, inl, sym, subst}
 use Rattle.std.specs.Prelude.{⊤}
-use Rattle.office_desk.specs.Meant.{meaning_over}
+use Rattle.review_office.specs.Meant.{meaning_over}
 use Rattle.journal.specs.Told.{place}
 use Rattle.journal_faults.specs.declared.refused.Refused.{Refused}
 use Rattle.journal_office.specs.Steps.{HasBegun}

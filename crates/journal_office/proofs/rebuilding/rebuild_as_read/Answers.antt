@@ -2,7 +2,7 @@ use Rattle.std.proofs.Common.{rules, ◌≡◌, ◌<◌, Err, ◌∙◌, ◌-◌
 use Rattle.std.proofs.Math.Nat.{min-eq_left}
 use Rattle.sqlite.specs.Held.{state}
 use Rattle.sqlite.specs.State.{HasCleanDisk}
-use Rattle.office_desk.specs.Meant.{meaning_over}
+use Rattle.review_office.specs.Meant.{meaning_over}
 use Rattle.journal.specs.Told.{place, placed_meant}
 use Rattle.journal_office.specs.Rebuilt.{IsRebuilt}
 use Rattle.journal_office.specs.Rebuilding.{IsHalted}

@@ -1,4 +1,4 @@
-use Rattle.office_desk.specs.Meant.{meaning_over}
+use Rattle.review_office.specs.Meant.{meaning_over}
 use Rattle.journal_office.proofs.rebuilding.replay_as_read.Goals as goal
 
 pub returns-in-Ok-clause-built : goal.returns-in-Ok-clause-built

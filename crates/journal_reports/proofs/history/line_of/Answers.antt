@@ -1,6 +1,6 @@
 use Rattle.std.proofs.Common.{◌∙◌, refl, sym}
 use Rattle.std.specs.Prelude.{string_bytes}
-use Rattle.office_desk.specs.Meant.{meaning_over}
+use Rattle.review_office.specs.Meant.{meaning_over}
 use Rattle.journal.specs.Told.{placed_meant}
 use Rattle.journal_reports.proofs.Writing.{a_line, no_line}
 use Rattle.journal_reports.proofs.history.line_of.Goals as goal

@@ -1,6 +1,6 @@
 use Rattle.std.proofs.Common.{ap, subst, sym}
 use Rattle.office_policy.specs.Happened.{event_meant}
-use Rattle.office_desk.specs.Meant.{meaning_over}
+use Rattle.review_office.specs.Meant.{meaning_over}
 use Rattle.journal_reports.specs.Lines.{looked_up}
 use Rattle.journal_reports.specs.Writing.{LooksUp}
 use Rattle.journal_reports.proofs.Writing.{not_looked_up}

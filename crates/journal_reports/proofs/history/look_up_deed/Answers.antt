@@ -1,7 +1,7 @@
 use Rattle.std.proofs.Common.{ap, sym}
 use Rattle.office_policy.specs.History.{did}
 use Rattle.office_policy.specs.Revisions.{last_revision, revision_of}
-use Rattle.office_desk.specs.Meant.{meaning_over}
+use Rattle.review_office.specs.Meant.{meaning_over}
 use Rattle.journal_reports.specs.Lines.{looked_up}
 use Rattle.journal_reports.proofs.Writing.{looked_back, not_looked_up}
 use Rattle.journal_reports.proofs.history.look_up_deed.Goals as goal

@@ -1,6 +1,6 @@
 use Rattle.std.proofs.Common.{rules, ◌≡◌, Err, ◌-◌, ◌∷◌, [], refl, subst}
 use Rattle.std.specs.Io.KnownBytes.{Appends}
-use Rattle.office_desk.specs.Meant.{meaning_over}
+use Rattle.review_office.specs.Meant.{meaning_over}
 use Rattle.journal.specs.Told.{place, placed_meant, start}
 use Rattle.journal_office.specs.Steps.{IsFirstRead}
 use Rattle.journal_office.proofs.Comes.{first_comes}

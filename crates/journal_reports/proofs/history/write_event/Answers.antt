@@ -1,5 +1,5 @@
 use Rattle.std.specs.Prelude.{string_bytes}
-use Rattle.office_desk.specs.Meant.{meaning_over}
+use Rattle.review_office.specs.Meant.{meaning_over}
 use Rattle.journal.specs.Told.{placed_meant}
 use Rattle.journal_reports.proofs.Writing.{kept_out, no_more, written_next}
 use Rattle.journal_reports.proofs.history.write_event.Goals as goal

@@ -1,5 +1,5 @@
 use Rattle.std.proofs.Common.{◌∙◌, inl, refl, sym, subst}
-use Rattle.office_desk.specs.Meant.{meaning_over}
+use Rattle.review_office.specs.Meant.{meaning_over}
 use Rattle.journal_reports.specs.History.{IsUnwritten, IsWritten}
 use Rattle.journal_reports.proofs.Writing.{unwritten}
 use Rattle.journal_reports.proofs.history.write_history.Goals as goal

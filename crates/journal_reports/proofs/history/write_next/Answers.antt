@@ -1,6 +1,6 @@
 use Rattle.std.proofs.Common.{◌-◌, inl, refl, subst}
 use Rattle.std.specs.Io.KnownBytes.{Appends}
-use Rattle.office_desk.specs.Meant.{meaning_over}
+use Rattle.review_office.specs.Meant.{meaning_over}
 use Rattle.journal.specs.Told.{placed_meant}
 use Rattle.journal_reports.specs.Struck.{struck_lines}
 use Rattle.journal_reports.specs.Writing.{WritesPart}

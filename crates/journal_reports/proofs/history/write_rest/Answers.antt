@@ -1,5 +1,5 @@
 use Rattle.std.proofs.Common.{rules, ◌≡◌, refl, subst}
-use Rattle.office_desk.specs.Meant.{meaning_over}
+use Rattle.review_office.specs.Meant.{meaning_over}
 use Rattle.journal_reports.specs.Writing.{WritesAll}
 use Rattle.journal_reports.proofs.history.write_rest.Goals as goal
 

@@ -1,7 +1,7 @@
 use Rattle.std.proofs.Common.{◌≡◌, ◌++◌, drop}
 use Rattle.std.specs.Prelude.{string_bytes}
 use Rattle.review_sheet.specs.Layout.{spaced}
-use Rattle.journal.specs.Lines.{words_among}
+use Rattle.office_words.specs.WordTables.{words_among}
 use Rattle.journal_reports.proofs.line.push_among.Given as goal
 
 abbrev pub invariant-loop-role : goal.invariant-loop-role

@@ -1,6 +1,6 @@
 use Rattle.std.proofs.Common.{arith}
 use Rattle.std.specs.Prelude.{string_bytes}
-use Rattle.journal.specs.Lines.{role_words}
+use Rattle.office_words.specs.WordTables.{role_words}
 use Rattle.journal_reports.proofs.Adding.{or_none}
 use Rattle.journal_reports.proofs.line.push_roles.Goals as goal
 

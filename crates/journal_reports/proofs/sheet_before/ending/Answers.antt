@@ -1,5 +1,5 @@
 use Rattle.std.proofs.Common.{ℕ, List, Option, None, sym, subst}
-use Rattle.office_desk.specs.Meant.{meaning_over}
+use Rattle.review_office.specs.Meant.{meaning_over}
 use Rattle.journal.specs.Told.{placed_meant}
 use Rattle.journal_reports.specs.Evidence.{ending_of}
 use Rattle.journal_reports.specs.Steps.{Looks}

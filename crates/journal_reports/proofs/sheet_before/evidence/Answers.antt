@@ -1,5 +1,5 @@
 use Rattle.std.proofs.Common.{◌∙◌, sym, subst}
-use Rattle.office_desk.specs.Meant.{meaning_over}
+use Rattle.review_office.specs.Meant.{meaning_over}
 use Rattle.journal_office.proofs.Refusals.{unbegun_refused}
 use Rattle.journal_reports.specs.Evidence.{IsEvidence, IsNoEvidence}
 use Rattle.journal_reports.proofs.Searching.{none_found}

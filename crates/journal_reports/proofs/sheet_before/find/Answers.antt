@@ -1,5 +1,5 @@
 use Rattle.std.proofs.Common.{◌∙◌, ◌∷◌, [], Some, subst, sym}
-use Rattle.office_desk.specs.Meant.{meaning_over}
+use Rattle.review_office.specs.Meant.{meaning_over}
 use Rattle.journal.specs.Told.{place, placed_meant}
 use Rattle.journal_office.specs.Steps.{HasBegun}
 use Rattle.journal_office.proofs.Refusals.{begun_on, none_before}

@@ -1,4 +1,4 @@
-use Rattle.office_desk.specs.Meant.{meaning_over}
+use Rattle.review_office.specs.Meant.{meaning_over}
 use Rattle.journal.specs.Told.{place, placed_meant}
 use Rattle.journal_reports.proofs.Searching.{given, kept, not_given, unseen}
 use Rattle.journal_reports.proofs.sheet_before.give.Goals as goal

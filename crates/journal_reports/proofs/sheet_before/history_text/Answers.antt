@@ -1,6 +1,6 @@
 use Rattle.std.proofs.Common.{◌∙◌}
 use Rattle.office_policy.specs.Happened.{event_meant}
-use Rattle.office_desk.specs.Meant.{meaning_over}
+use Rattle.review_office.specs.Meant.{meaning_over}
 use Rattle.journal_reports.proofs.Searching.{line_seen, line_unseen}
 use Rattle.journal_reports.proofs.sheet_before.history_text.Goals as goal
 

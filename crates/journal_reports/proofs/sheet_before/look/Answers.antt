@@ -1,5 +1,5 @@
 use Rattle.std.proofs.Common.{rules, ◌≡◌, Err, Some}
-use Rattle.office_desk.specs.Meant.{meaning_over}
+use Rattle.review_office.specs.Meant.{meaning_over}
 use Rattle.journal.specs.Told.{placed_meant}
 use Rattle.journal_reports.proofs.Looks.{looked_on}
 use Rattle.journal_reports.proofs.Searching.{ending_unseen, no_memory, none_seen, sheet_seen, sheet_unseen}

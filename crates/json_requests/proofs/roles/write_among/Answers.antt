@@ -1,7 +1,7 @@
 use Rattle.std.proofs.Common.{refl}
 use Rattle.serde_json.specs.Data.{string}
 use Rattle.json_tree.proofs.Writing.{after_last, leaves_all, list_tokens}
-use Rattle.json_requests.specs.Answers.{words_among}
+use Rattle.office_words.specs.WordTables.{words_among}
 use Rattle.json_requests.proofs.RoleFacts.{role_written, roles_written}
 use Rattle.json_requests.proofs.roles.write_among.Goals as goal
 

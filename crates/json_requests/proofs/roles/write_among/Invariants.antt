@@ -1,7 +1,7 @@
 use Rattle.std.proofs.Common.{drop}
 use Rattle.serde_json.specs.Data.{string}
 use Rattle.json_tree.proofs.Writing.{Leaves}
-use Rattle.json_requests.specs.Answers.{words_among}
+use Rattle.office_words.specs.WordTables.{words_among}
 use Rattle.json_requests.proofs.roles.write_among.Given as goal
 
 abbrev pub invariant-loop-role : goal.invariant-loop-role

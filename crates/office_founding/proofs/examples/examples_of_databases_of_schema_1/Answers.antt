@@ -1,7 +1,7 @@
 use Rattle.std.proofs.Common.{◌≡◌, ◌∷◌, [], Bool, true, false, pos, cond, codes, Option, Some, None, refl, arith}
 use Rattle.std.specs.Prelude.{option_map}
 use Rattle.std.proofs.lemmas.List.Sorted.{IsPermutation-refl}
-use Rattle.review_policy.specs.Words.{is_word}
+use Rattle.office_words.specs.Words.{is_word}
 use Rattle.office_store.proofs.Columns.{word_is_utf8}
 use Rattle.office_founding.specs.Examples.{old_user, old_revision, old_vote, old_baseline}
 use Rattle.office_founding.proofs.examples.examples_of_databases_of_schema_1.Goals as goal

@@ -1,6 +1,6 @@
 use Rattle.std.proofs.Common.{inl, inr, rules, ◌≡◌, Err, true, false, true≢false, refl, sym, ap, ◌∙◌}
 use Rattle.sqlite.specs.Held.{state}
-use Rattle.review_policy.specs.declared.fault.Fault.TheVariants.{NotAnOffice}
+use Rattle.office_words.specs.declared.fault.Fault.TheVariants.{NotAnOffice}
 use Rattle.office_founding.specs.Founding.{has_table}
 use Rattle.office_store.specs.Schema.{no_schema}
 use Rattle.office_store.proofs.Committed.{survives_same}

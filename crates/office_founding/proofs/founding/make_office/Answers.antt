@@ -8,8 +8,8 @@ use Rattle.office_rows.specs.Causes.{HasFailed}
 use Rattle.office_rows.specs.Statements.{begun}
 use Rattle.sqlite.specs.Effect.{Database}
 use Rattle.sqlite.proofs.StateLemmas.{survives_weaker}
-use Rattle.review_policy.specs.declared.fault.Fault.TheVariants.{NotAnOffice}
-use Rattle.office_tables.specs.Changes.{founded_tables}
+use Rattle.office_words.specs.declared.fault.Fault.TheVariants.{NotAnOffice}
+use Rattle.office_words.specs.Changes.{founded_tables}
 use Rattle.office_store.proofs.Committed.{trees_of}
 use Rattle.office_founding.specs.Founding.{first_user}
 use Rattle.office_founding.proofs.FoundingSteps.{all_founded, none_founded, failed_given, refused_given}

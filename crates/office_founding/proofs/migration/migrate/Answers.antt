@@ -1,6 +1,6 @@
 use Rattle.std.proofs.Common.{inl, inr, rules, ◌≡◌, true, false, true≢false, Ok, Err, sym, ap, ◌∙◌}
 use Rattle.sqlite.specs.Held.{state}
-use Rattle.review_policy.specs.declared.fault.Fault.TheVariants.{NotAnOffice}
+use Rattle.office_words.specs.declared.fault.Fault.TheVariants.{NotAnOffice}
 use Rattle.office_founding.specs.Form.{has_old_tables, old_form, new_form}
 use Rattle.office_founding.proofs.OldReads.{shown_has_old_tables, office_has_old_tables}
 use Rattle.office_store.proofs.Calls.{never_unformed}

@@ -1,7 +1,7 @@
 use Rattle.std.proofs.Common.{inl, inr, ◌≡◌, sym, subst}
 use Rattle.sqlite.specs.Held.{state}
 use Rattle.office_rows.specs.Causes.{HasFailed}
-use Rattle.review_policy.specs.declared.fault.Fault.TheVariants.{NotAnOffice}
+use Rattle.office_words.specs.declared.fault.Fault.TheVariants.{NotAnOffice}
 use Rattle.office_founding.proofs.Migrating.{all_ran, none_ran, never_unformed}
 use Rattle.office_founding.proofs.migration.move_office.Goals as goal
 

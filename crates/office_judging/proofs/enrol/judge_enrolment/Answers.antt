@@ -2,8 +2,8 @@ use Rattle.std.proofs.Common.{◌∙◌, Some, None, refl, sym, ap}
 use Rattle.sqlite.specs.Held.{state}
 use Rattle.review_policy.specs.declared.answer.Reply.TheVariants.{Nothing}
 use Rattle.review_policy.specs.Rules.{enrol_rules, known_denial}
-use Rattle.review_policy.specs.declared.fault.Fault.TheVariants.{NoMemory}
-use Rattle.office_tables.specs.declared.row.UserRow.{UserRow}
+use Rattle.office_words.specs.declared.fault.Fault.TheVariants.{NoMemory}
+use Rattle.office_words.specs.declared.row.UserRow.{UserRow}
 use Rattle.office_policy.specs.declared.change.Change.TheVariants as changes
 use Rattle.office_policy.specs.History.{enrolled}
 use Rattle.office_policy.specs.Verdict.{accepted}

@@ -1,7 +1,7 @@
 use Rattle.std.proofs.Common.{rules, ◌≡◌, ◌∙◌, Err, refl, sym}
 use Rattle.sqlite.specs.Held.{state}
 use Rattle.review_policy.specs.declared.denial.Need.TheVariants.{One}
-use Rattle.review_policy.specs.declared.fault.Fault.TheVariants.{NoMemory}
+use Rattle.office_words.specs.declared.fault.Fault.TheVariants.{NoMemory}
 use Rattle.no_memory.specs.Witness.{witness}
 use Rattle.office_judging.proofs.Unread.{found_unread}
 use Rattle.office_judging.proofs.Judging.{read_as, read_in_vain}

@@ -1,6 +1,6 @@
 use Rattle.std.proofs.Common.{rules, ◌≡◌, Err, subst}
 use Rattle.sqlite.specs.Held.{state}
-use Rattle.office_tables.specs.Lists.{IsListed}
+use Rattle.office_words.specs.Lists.{IsListed}
 use Rattle.office_judging.proofs.Judging.{read_as, read_both, second_fails}
 use Rattle.office_judging.proofs.Standing.{one_listed}
 use Rattle.office_judging.proofs.profiles.listed.Goals as goal

@@ -1,7 +1,7 @@
 use Rattle.std.proofs.Common.{rules, ◌≡◌, ◌∙◌, ◌+◌, Ok, Err, Some, None, [], ◌∷◌, ◌++◌, List, vec_len, refl, sym, ap, subst, arith}
 use Rattle.sqlite.specs.Held.{state}
 use Rattle.review_policy.specs.declared.answer.ListedProfile.{ListedProfile}
-use Rattle.review_policy.specs.declared.fault.Fault.TheVariants.{NoMemory}
+use Rattle.office_words.specs.declared.fault.Fault.TheVariants.{NoMemory}
 use Rattle.office_store.specs.Calls.{IsRead}
 use Rattle.office_judging.proofs.Judging.{read_as, read_both, read_in_vain, second_fails}
 use Rattle.office_judging.proofs.Walking.{Walked, walk_begins, walk_goes_on, walk_ends}

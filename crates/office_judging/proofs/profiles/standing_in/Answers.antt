@@ -1,8 +1,8 @@
 use Rattle.std.proofs.Common.{rules, ◌≡◌, Err, refl, sym, subst}
 use Rattle.sqlite.specs.Held.{state}
-use Rattle.review_policy.specs.declared.ask.ProfileName.{ProfileName}
-use Rattle.review_policy.specs.declared.fault.Fault.TheVariants.{NoMemory}
-use Rattle.office_tables.specs.Lists.{profile_of}
+use Rattle.office_words.specs.declared.name.ProfileName.{ProfileName}
+use Rattle.office_words.specs.declared.fault.Fault.TheVariants.{NoMemory}
+use Rattle.office_words.specs.Lists.{profile_of}
 use Rattle.office_store.proofs.Calls.{fails_unread}
 use Rattle.office_judging.specs.Listed.{standing_of, IsOneOf}
 use Rattle.office_judging.proofs.Standing.{one_listed, read_weaker}

@@ -1,6 +1,6 @@
 use Rattle.std.proofs.Common.{rules, ◌≡◌, Err, refl}
 use Rattle.sqlite.specs.Held.{state}
-use Rattle.review_policy.specs.declared.fault.Fault.TheVariants.{NoMemory}
+use Rattle.office_words.specs.declared.fault.Fault.TheVariants.{NoMemory}
 use Rattle.office_judging.proofs.Judging.{read_as, read_in_vain, second_fails}
 use Rattle.office_judging.proofs.Compared.{read_pair}
 use Rattle.office_judging.proofs.Sheets.{sheet_back}

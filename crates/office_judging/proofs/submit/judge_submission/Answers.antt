@@ -1,7 +1,7 @@
 use Rattle.std.proofs.Common.{rules, ◌≡◌, ◌∙◌, Some, None, Err, sym, ap, subst, refl}
 use Rattle.sqlite.specs.Held.{state}
 use Rattle.review_policy.specs.Rules.{submit_rules, known_denial}
-use Rattle.review_policy.specs.declared.fault.Fault.TheVariants.{NoMemory}
+use Rattle.office_words.specs.declared.fault.Fault.TheVariants.{NoMemory}
 use Rattle.review_policy.specs.declared.ask.Ask.TheVariants as ask
 use Rattle.office_policy.specs.Verdict.{verdict_of}
 use Rattle.office_judging.specs.Judged.{IsAllowedBy, IsAskedBy}

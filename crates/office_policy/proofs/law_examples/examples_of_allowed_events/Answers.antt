@@ -1,6 +1,6 @@
 use Rattle.std.proofs.Common.{◌≡◌, ◌<◌, ◌^◌, ℕ, [], ◌∷◌, true, false, codes, replicate, refl, lit<}
 use Rattle.std.proofs.lemmas.List.Elements.{All-replicate}
-use Rattle.review_policy.specs.Words.{is_word}
+use Rattle.office_words.specs.Words.{is_word}
 use Rattle.review_policy.specs.declared.act.ProfileAct.TheVariants.{Hold}
 use Rattle.review_policy.specs.declared.ask.Ask.TheVariants as asks
 use Rattle.review_policy.specs.declared.answer.Reply.TheVariants as replies

@@ -4,9 +4,9 @@ use Rattle.sha2.proofs.Facts256.{length-sha256}
 use Rattle.profile_text.specs.Digest.{digest_of}
 use Rattle.review_policy.specs.declared.denial.Need.{Need}
 use Rattle.review_policy.specs.declared.denial.Need.TheVariants.{One, TwoWithSecurity}
-use Rattle.review_policy.specs.declared.role.Role.TheVariants.{Security}
+use Rattle.office_words.specs.declared.role.Role.TheVariants.{Security}
 use Rattle.review_policy.specs.Rules.{approvals_of}
-use Rattle.office_tables.specs.Lists.{holds_role}
+use Rattle.office_words.specs.Lists.{holds_role}
 use Rattle.office_policy.specs.Examples.{ann, ben, rev, ray, sue, web, text, one_submitted}
 use Rattle.office_policy.specs.Headline.{Approves}
 use Rattle.office_policy.specs.LawExamples.{names_text, text_approved, reviewers_approve_text}

@@ -4,7 +4,7 @@ use Rattle.profile_text.specs.Digest.{digest_of}
 use Rattle.review_policy.specs.declared.act.ProfileAct.TheVariants.{Hold}
 use Rattle.review_policy.specs.declared.ask.Ask.TheVariants as ask
 use Rattle.review_policy.specs.declared.ask.Request.{Request}
-use Rattle.office_tables.specs.declared.row.UserRow.{UserRow}
+use Rattle.office_words.specs.declared.row.UserRow.{UserRow}
 use Rattle.office_policy.specs.Callers.{IsForCaller, caller_of, may_ask}
 use Rattle.office_policy.specs.Examples.{desk, blue, ann, sue, web, office}
 use Rattle.office_policy.specs.History.{Event, History, on_profile}

@@ -1,9 +1,9 @@
 use Rattle.std.proofs.Common.{◌≡◌, true, false, Some, refl, ap}
 use Rattle.std.specs.Prelude.{bytes_eq}
 use Rattle.profile_text.specs.Digest.{digest_of}
-use Rattle.review_policy.specs.declared.revision.State.TheVariants.{Issued}
+use Rattle.office_words.specs.declared.revision.State.TheVariants.{Issued}
 use Rattle.review_policy.specs.Rules.{is_open}
-use Rattle.office_tables.specs.declared.row.RevisionRow.{RevisionRow}
+use Rattle.office_words.specs.declared.row.RevisionRow.{RevisionRow}
 use Rattle.office_policy.specs.Examples.{ann, ben, web, text, open_row, one_submitted, first_issued}
 use Rattle.office_policy.proofs.ShownFacts.{shown_row}
 use Rattle.office_policy.proofs.law_examples.examples_of_events_that_are_not_shown.Goals as goal

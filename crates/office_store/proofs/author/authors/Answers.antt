@@ -1,7 +1,7 @@
 use Rattle.sqlite.specs.Held.{state}
 use Rattle.office_store.specs.declared.author.TheConstants.{AUTHORS_OF}
 use Rattle.office_store.proofs.Texts as texts
-use Rattle.office_tables.specs.Lists.{AreAuthors}
+use Rattle.office_words.specs.Lists.{AreAuthors}
 use Rattle.office_store.specs.Lists.{name_row, IsWord}
 use Rattle.office_store.proofs.AuthorReads.{reads_authors}
 use Rattle.office_store.proofs.ToldLists.{same_name_row}

@@ -1,6 +1,6 @@
 use Rattle.sqlite.specs.Held.{state}
 use Rattle.office_store.proofs.Calls.{write_into}
-use Rattle.office_tables.specs.Changes.{with_baseline}
+use Rattle.office_words.specs.Changes.{with_baseline}
 use Rattle.office_store.specs.Writes.{putting_baseline}
 use Rattle.office_store.proofs.OtherWrites.{baseline_steps}
 use Rattle.office_store.proofs.baselines.put_baseline.Goals as goal

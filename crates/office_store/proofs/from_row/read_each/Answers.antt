@@ -1,6 +1,6 @@
 use Rattle.std.proofs.Common.{◌≡◌, ◌+◌, [], ◌∷◌, ◌++◌, map, take, Err, rules, sym, subst}
 use Rattle.sqlite_rules.proofs.ListLemmas.{all_has}
-use Rattle.review_policy.specs.declared.fault.Fault.TheVariants.{NotAnOffice}
+use Rattle.office_words.specs.declared.fault.Fault.TheVariants.{NotAnOffice}
 use Rattle.office_store.proofs.ListReads.{shows_at}
 use Rattle.office_store.proofs.ToldLists.{one_more_read, all_read}
 use Rattle.office_store.proofs.from_row.read_each.Goals as goal

@@ -1,6 +1,6 @@
 use Rattle.sqlite.specs.Held.{state}
 use Rattle.office_store.proofs.Calls.{write_into}
-use Rattle.office_tables.specs.Changes.{without_hold}
+use Rattle.office_words.specs.Changes.{without_hold}
 use Rattle.office_store.specs.Writes.{releasing}
 use Rattle.office_store.proofs.OtherWrites.{unhold_steps}
 use Rattle.office_store.proofs.holds.delete_hold.Goals as goal

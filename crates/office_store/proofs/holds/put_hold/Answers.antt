@@ -1,6 +1,6 @@
 use Rattle.sqlite.specs.Held.{state}
 use Rattle.office_store.proofs.Calls.{write_into}
-use Rattle.office_tables.specs.Changes.{with_hold}
+use Rattle.office_words.specs.Changes.{with_hold}
 use Rattle.office_store.specs.Writes.{holding}
 use Rattle.office_store.proofs.OtherWrites.{hold_steps}
 use Rattle.office_store.proofs.holds.put_hold.Goals as goal

@@ -1,7 +1,7 @@
 use Rattle.sqlite.specs.Held.{state}
 use Rattle.office_store.specs.declared.listing.TheConstants.{REVISIONS_OF}
 use Rattle.office_store.proofs.Texts as texts
-use Rattle.office_tables.specs.Lists.{AreRevisionsOf}
+use Rattle.office_words.specs.Lists.{AreRevisionsOf}
 use Rattle.office_store.specs.Lists.{listed_row, IsListedForm}
 use Rattle.office_store.proofs.ListingReads.{reads_listed}
 use Rattle.office_store.proofs.ToldLists.{same_listed_row}

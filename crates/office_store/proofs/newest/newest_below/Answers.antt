@@ -1,7 +1,7 @@
 use Rattle.sqlite.specs.Held.{state}
 use Rattle.office_store.specs.declared.newest.TheConstants.{NEWEST_BELOW}
 use Rattle.office_store.proofs.Texts as texts
-use Rattle.office_tables.specs.Lists.{AreNewest}
+use Rattle.office_words.specs.Lists.{AreNewest}
 use Rattle.office_store.specs.Lists.{told_row, IsToldForm, most_read}
 use Rattle.office_store.proofs.NewestReads.{reads_newest}
 use Rattle.office_store.proofs.ToldLists.{same_told_row}

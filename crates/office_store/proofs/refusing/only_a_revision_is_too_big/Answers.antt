@@ -7,10 +7,10 @@ use Rattle.sqlite.specs.Effect.{Database}
 use Rattle.sqlite.specs.Order.{Row}
 use Rattle.sqlite.specs.declared.types.Value.TheVariants.{Null}
 use Rattle.sqlite_rules.specs.Lists.{Has}
-use Rattle.review_policy.specs.declared.ask.ProfileName.{ProfileName}
-use Rattle.review_policy.specs.Words.{is_word, is_word_byte}
-use Rattle.review_policy.specs.declared.fault.Fault.{Fault}
-use Rattle.review_policy.specs.declared.fault.Fault.TheVariants.{NoMemory, Disk, Full, NotAnOffice}
+use Rattle.office_words.specs.declared.name.ProfileName.{ProfileName}
+use Rattle.office_words.specs.Words.{is_word, is_word_byte}
+use Rattle.office_words.specs.declared.fault.Fault.{Fault}
+use Rattle.office_words.specs.declared.fault.Fault.TheVariants.{NoMemory, Disk, Full, NotAnOffice}
 use Rattle.office_rows.specs.Refusals.{IsBig}
 use Rattle.office_store.specs.Entries.{user_row, vote_row, baseline_entry, baseline_row, hold_row}
 use Rattle.office_store.specs.Refusing.{LacksPlace, deletes_hold}

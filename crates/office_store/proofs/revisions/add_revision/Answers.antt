@@ -1,6 +1,6 @@
 use Rattle.std.proofs.Common.{sym, subst}
 use Rattle.sqlite.specs.Held.{state}
-use Rattle.office_tables.specs.Reads.{Adds}
+use Rattle.office_words.specs.Reads.{Adds}
 use Rattle.office_store.specs.Steps.{AreSteps}
 use Rattle.office_store.specs.Writes.{adding_revision}
 use Rattle.office_store.proofs.Calls.{write_as}

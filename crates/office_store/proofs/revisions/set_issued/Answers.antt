@@ -1,6 +1,6 @@
 use Rattle.sqlite.specs.Held.{state}
 use Rattle.office_store.proofs.Calls.{write_into}
-use Rattle.office_tables.specs.Changes.{with_issued}
+use Rattle.office_words.specs.Changes.{with_issued}
 use Rattle.office_store.specs.Writes.{issuing}
 use Rattle.office_store.proofs.RevisionWrites.{issue_steps}
 use Rattle.office_store.proofs.revisions.set_issued.Goals as goal

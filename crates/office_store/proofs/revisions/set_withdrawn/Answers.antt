@@ -1,6 +1,6 @@
 use Rattle.sqlite.specs.Held.{state}
 use Rattle.office_store.proofs.Calls.{write_into}
-use Rattle.office_tables.specs.Changes.{with_withdrawn}
+use Rattle.office_words.specs.Changes.{with_withdrawn}
 use Rattle.office_store.specs.Writes.{withdrawing}
 use Rattle.office_store.proofs.RevisionWrites.{withdraw_steps}
 use Rattle.office_store.proofs.revisions.set_withdrawn.Goals as goal

@@ -1,8 +1,8 @@
 use Rattle.std.proofs.Common.{rules, ◌≡◌, ◌+◌, List, subst, Err, [], ◌∷◌, ◌++◌, take, sym, refl}
 use Rattle.sqlite_rules.proofs.ListLemmas.{all_has}
-use Rattle.review_policy.specs.declared.fault.Fault.TheVariants.{NotAnOffice}
+use Rattle.office_words.specs.declared.fault.Fault.TheVariants.{NotAnOffice}
 use Rattle.office_store.specs.Lists.{cast_row, IsCastForm, AreCastAs}
-use Rattle.review_policy.specs.declared.revision.VoteRow.{VoteRow}
+use Rattle.office_words.specs.declared.revision.VoteRow.{VoteRow}
 use Rattle.office_store.proofs.ToldLists.{one_more_cast, all_cast}
 use Rattle.office_store.proofs.ListReads.{shows_at}
 use Rattle.office_store.proofs.standing_votes.read_votes.Goals as goal

@@ -5,7 +5,7 @@ use Rattle.office_rows.specs.Told.{map_ok}
 use Rattle.office_store.proofs.ToldLists.{same_standings, all_failed, all_told, tells_votes}
 use Rattle.office_store.proofs.Told.{only_memory}
 use Rattle.office_store.proofs.Calls.{read_failed, read_made}
-use Rattle.office_tables.specs.Lists.{AreStanding}
+use Rattle.office_words.specs.Lists.{AreStanding}
 use Rattle.office_store.specs.Lists.{AreCastAs, TellsVotes}
 use Rattle.office_store.proofs.standing_votes.standing.Goals as goal
 

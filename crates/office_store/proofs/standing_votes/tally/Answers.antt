@@ -1,6 +1,6 @@
 use Rattle.std.proofs.Common.{Ok, rules, refl, ap, ◌∙◌}
 use Rattle.sqlite.specs.Held.{state}
-use Rattle.office_tables.specs.Lists.{tally_of}
+use Rattle.office_words.specs.Lists.{tally_of}
 use Rattle.office_store.proofs.ToldLists.{tally_told, tallies_failed}
 use Rattle.office_store.proofs.Calls.{read_failed, read_made}
 use Rattle.office_store.proofs.standing_votes.tally.Goals as goal

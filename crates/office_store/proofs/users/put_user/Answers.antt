@@ -1,6 +1,6 @@
 use Rattle.sqlite.specs.Held.{state}
 use Rattle.office_store.proofs.Calls.{write_into}
-use Rattle.office_tables.specs.Changes.{with_user}
+use Rattle.office_words.specs.Changes.{with_user}
 use Rattle.office_store.specs.Writes.{putting_user}
 use Rattle.office_store.proofs.UserWrites.{put_steps}
 use Rattle.office_store.proofs.users.put_user.Goals as goal

@@ -1,6 +1,6 @@
 use Rattle.sqlite.specs.Held.{state}
 use Rattle.office_store.proofs.Calls.{write_into}
-use Rattle.office_tables.specs.Changes.{with_vote}
+use Rattle.office_words.specs.Changes.{with_vote}
 use Rattle.office_store.specs.Entries.{vote_entry}
 use Rattle.office_store.specs.Writes.{putting_vote}
 use Rattle.office_store.proofs.OtherWrites.{vote_steps}

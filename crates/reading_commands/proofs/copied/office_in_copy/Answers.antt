@@ -1,4 +1,4 @@
-use Rattle.std.proofs.Common.{subst, sym}
+use Rattle.std.proofs.Common.{inr, refl, subst, sym}
 use Rattle.sqlite.specs.Held.{Held}
 use Rattle.memory_database.specs.Copies.{CopyStore, over_copy, IsCopyOf}
 use Rattle.command_host.specs.Openings.{IsOpenedOffice}
@@ -10,9 +10,14 @@ returns-in-Ok-over-clause-office c =
     (record { was = c.in-Ok.conn; opened = c.in-Ok.ensures.copy; over = c.in-Ok-over.ensures.over })
 
 pub returns-clause-none : goal.returns-clause-none
-returns-clause-none c = (
-  c.in-Ok.conn,
-  c.in-Err-over.field-0-1,
-  c.in-Ok.ensures.copy,
-  record { foreign = c.in-Err-over.ensures.foreign; told = c.in-Err-over.ensures.told },
-)
+returns-clause-none c =
+    inr (
+      c.in-Err-over.fault,
+      refl,
+      (
+        c.in-Ok.conn,
+        c.in-Err-over.field-0-1,
+        c.in-Ok.ensures.copy,
+        record { foreign = c.in-Err-over.ensures.foreign; told = c.in-Err-over.ensures.told },
+      ),
+    )

@@ -2,7 +2,7 @@ use Rattle.std.proofs.Common.{inr, subst}
 use Rattle.std.specs.Io.Buffered.{reader_remaining}
 use Rattle.memory_database.specs.MemoryStore.{over_memory}
 use Rattle.journal_reports.specs.Evidence.{IsEvidence, IsNoEvidence}
-use Rattle.office_desk.specs.Meant.{meaning_over}
+use Rattle.review_office.specs.Meant.{meaning_over}
 use Rattle.reading_commands.proofs.evidence.evidence_at.Goals as goal
 
 pub returns-in-Ok-evidence_over-clause-evidence : goal.returns-in-Ok-evidence_over-clause-evidence

@@ -1,7 +1,7 @@
 use Rattle.std.proofs.Common.{inr, refl, subst}
 use Rattle.std.specs.Io.Buffered.{reader_remaining}
 use Rattle.memory_database.specs.MemoryStore.{over_memory}
-use Rattle.office_desk.specs.Meant.{meaning_over}
+use Rattle.review_office.specs.Meant.{meaning_over}
 use Rattle.journal_reports.specs.History.{IsUnwritten, IsWritten}
 use Rattle.journal_reports.specs.Passing.{Asked}
 use Rattle.reading_commands.proofs.history.run_history.Goals as goal

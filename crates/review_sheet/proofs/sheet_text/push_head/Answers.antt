@@ -1,7 +1,7 @@
 use Rattle.std.proofs.Common.{◌∙◌, ◌∷◌, [], ◌++◌, ap, codes, decimal}
 use Rattle.std.specs.Prelude.{string_bytes}
 use Rattle.hex.specs.Hex.{encode_lower}
-use Rattle.review_policy.specs.WordTables.{state_word}
+use Rattle.office_words.specs.WordTables.{state_word}
 use Rattle.review_sheet.specs.Layout.{ended}
 use Rattle.review_sheet.specs.Sheet.{baseline_text, head_lines}
 use Rattle.review_sheet.proofs.Adding.{last_line, line_then}

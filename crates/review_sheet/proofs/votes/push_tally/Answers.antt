@@ -1,7 +1,7 @@
 use Rattle.std.proofs.Common.{◌∙◌, ◌++◌, ap, codes, decimal}
 use Rattle.std.specs.Prelude.{count_by, string_bytes}
 use Rattle.review_sheet.specs.Layout.{ended}
-use Rattle.review_policy.specs.Votes.{is_approval, is_rejection}
+use Rattle.office_words.specs.Votes.{is_approval, is_rejection}
 use Rattle.review_sheet.proofs.Adding.{two_lines}
 use Rattle.review_sheet.proofs.votes.push_tally.Goals as goal
 

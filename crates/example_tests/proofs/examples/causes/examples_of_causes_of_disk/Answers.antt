@@ -1,5 +1,5 @@
 use Rattle.std.proofs.Common.{◌≡◌, inl, true, false, refl, arith}
-use Rattle.review_policy.specs.declared.fault.Fault.TheVariants.{Disk, Full}
+use Rattle.office_words.specs.declared.fault.Fault.TheVariants.{Disk, Full}
 use Rattle.example_tests.specs.Examples.{counting}
 use Rattle.example_tests.proofs.Causes.{not_risen, unmet, unmet_other}
 use Rattle.example_tests.proofs.examples.causes.examples_of_causes_of_disk.Goals as goal

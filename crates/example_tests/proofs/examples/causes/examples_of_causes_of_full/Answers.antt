@@ -1,5 +1,5 @@
 use Rattle.std.proofs.Common.{◌≡◌, inl, inr, subst, arith}
-use Rattle.review_policy.specs.declared.fault.Fault.TheVariants.{Disk, Full}
+use Rattle.office_words.specs.declared.fault.Fault.TheVariants.{Disk, Full}
 use Rattle.office_policy.specs.Handled.{RefusesEvent}
 use Rattle.office_policy.specs.Verdict.{Verdict, verdict}
 use Rattle.office_policy.specs.History.{History}

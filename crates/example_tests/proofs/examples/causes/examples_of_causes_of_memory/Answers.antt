@@ -1,5 +1,5 @@
 use Rattle.std.proofs.Common.{inl, inr, refl}
-use Rattle.review_policy.specs.declared.fault.Fault.TheVariants.{NoMemory, Full}
+use Rattle.office_words.specs.declared.fault.Fault.TheVariants.{NoMemory, Full}
 use Rattle.office_policy.specs.Verdict.{verdict}
 use Rattle.example_tests.specs.Examples.{counting, grown, maybe_grown}
 use Rattle.example_tests.proofs.Causes.{memory_there, not_in_doubt, not_written, other_history, refuses_one, refuses_other}

@@ -1,6 +1,6 @@
 use Rattle.std.proofs.Common.{◌≡◌, Bool, true, false, refl, arith}
-use Rattle.review_policy.specs.declared.fault.Fault.{Fault}
-use Rattle.review_policy.specs.declared.fault.Fault.TheVariants.{Disk, Full}
+use Rattle.office_words.specs.declared.fault.Fault.{Fault}
+use Rattle.office_words.specs.declared.fault.Fault.TheVariants.{Disk, Full}
 use Rattle.office_policy.specs.Handled.{HasRisen}
 use Rattle.example_tests.proofs.examples.journals.examples_of_faults_while_settling.Goals as goal
 

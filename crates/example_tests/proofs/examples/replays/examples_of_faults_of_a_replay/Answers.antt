@@ -1,5 +1,5 @@
 use Rattle.std.proofs.Common.{[], inl, inr, refl, sym, arith}
-use Rattle.review_policy.specs.declared.fault.Fault.TheVariants.{Full}
+use Rattle.office_words.specs.declared.fault.Fault.TheVariants.{Full}
 use Rattle.office_policy.proofs.SurvivalFacts.{survives_none}
 use Rattle.example_tests.specs.Examples.{counting, founding, refusing}
 use Rattle.example_tests.proofs.Causes.{not_risen, other_history}

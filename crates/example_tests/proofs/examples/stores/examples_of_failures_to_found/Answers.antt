@@ -2,7 +2,7 @@ use Rattle.std.proofs.Common.{◌≡◌, ◌∙◌, inl, inr, ℕ, pos, [], ◌�
 use Rattle.sqlite.specs.declared.types.Value.TheVariants.{Int}
 use Rattle.sqlite.specs.Schema.{Schema}
 use Rattle.sqlite_schema.specs.Names.{same_name}
-use Rattle.review_policy.specs.Words.{is_word}
+use Rattle.office_words.specs.Words.{is_word}
 use Rattle.office_rows.specs.Statements.{begun}
 use Rattle.office_store.specs.Entries.{IsUser, user_row}
 use Rattle.office_store.specs.Schema.{no_schema, office_schema}

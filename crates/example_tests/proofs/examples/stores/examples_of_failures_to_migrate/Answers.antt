@@ -3,9 +3,9 @@ use Rattle.sqlite.specs.Effect.{Database}
 use Rattle.sqlite.specs.Held.{Held, state}
 use Rattle.sqlite.specs.Store.{Ghosts}
 use Rattle.sqlite_schema.specs.Names.{same_name}
-use Rattle.review_policy.specs.declared.fault.Fault.{Fault}
-use Rattle.review_policy.specs.declared.fault.Fault.TheVariants.{NotAnOffice}
-use Rattle.office_tables.specs.Tables.{Tables}
+use Rattle.office_words.specs.declared.fault.Fault.{Fault}
+use Rattle.office_words.specs.declared.fault.Fault.TheVariants.{NotAnOffice}
+use Rattle.office_words.specs.Tables.{Tables}
 use Rattle.office_rows.specs.Statements.{begun}
 use Rattle.office_rows.proofs.Queries.{row_left}
 use Rattle.office_store.specs.Schema.{no_schema}

@@ -1,5 +1,5 @@
 use Rattle.std.proofs.Common.{[], refl}
-use Rattle.review_policy.specs.declared.fault.Fault.TheVariants.{Disk, Full}
+use Rattle.office_words.specs.declared.fault.Fault.TheVariants.{Disk, Full}
 use Rattle.office_store.specs.Refusing.{deletes_hold}
 use Rattle.office_policy.specs.Examples.{web}
 use Rattle.example_tests.proofs.Failing.{is_release, memory_lacks, takes_no_place}

@@ -1,6 +1,6 @@
 use Rattle.std.proofs.Common.{◌≡◌, inl, inr, Bool, true, false, refl, arith}
-use Rattle.review_policy.specs.declared.fault.Fault.{Fault as TheFault}
-use Rattle.review_policy.specs.declared.fault.Fault.TheVariants.{Disk, Full}
+use Rattle.office_words.specs.declared.fault.Fault.{Fault as TheFault}
+use Rattle.office_words.specs.declared.fault.Fault.TheVariants.{Disk, Full}
 use Rattle.office_policy.specs.Handled.{HasRisen}
 use Rattle.example_tests.proofs.examples.strikes.examples_of_events_that_are_not_written.Goals as goal
 

@@ -2,8 +2,8 @@ use Rattle.std.proofs.Common.{◌≡◌, ◌≤◌, inl, inr, true, false, Optio
 use Rattle.review_policy.specs.declared.answer.Answer.{Answer}
 use Rattle.review_policy.specs.declared.answer.Answer.TheVariants.{Fault}
 use Rattle.review_policy.specs.declared.ask.Request.{Request}
-use Rattle.review_policy.specs.declared.fault.Fault.{Fault as TheFault}
-use Rattle.review_policy.specs.declared.fault.Fault.TheVariants.{NoMemory, Disk, Full, NotAnOffice}
+use Rattle.office_words.specs.declared.fault.Fault.{Fault as TheFault}
+use Rattle.office_words.specs.declared.fault.Fault.TheVariants.{NoMemory, Disk, Full, NotAnOffice}
 use Rattle.office_policy.specs.Handled.{HasRisen}
 use Rattle.office_policy.proofs.SurvivalFacts.{left_itself}
 use Rattle.journal.specs.Journals.{IsStruckOr}

@@ -1,7 +1,7 @@
 use Rattle.std.proofs.Common.{arith, ◌∙◌, ◌+◌, ◌++◌, ◌∷◌, [], ℕ, ap, inr, sym, subst, length-append}
 use Rattle.sqlite.specs.Held.{state}
 use Rattle.sqlite.specs.State.{HasCleanDisk}
-use Rattle.office_desk.specs.Meant.{meaning_over}
+use Rattle.review_office.specs.Meant.{meaning_over}
 use Rattle.journal.specs.SealsAt.{IsSeen}
 use Rattle.journal.specs.Told.{place, placed_meant}
 use Rattle.journal_office.specs.Rebuilt.{HasReplayed}

@@ -1,7 +1,7 @@
 use Rattle.std.proofs.Common.{◌∙◌, inr, subst}
 use Rattle.sqlite.specs.Held.{state}
 use Rattle.sqlite.specs.State.{HasCleanDisk}
-use Rattle.office_desk.specs.Meant.{meaning_over}
+use Rattle.review_office.specs.Meant.{meaning_over}
 use Rattle.journal.specs.Told.{place}
 use Rattle.journal_office.proofs.Refusals.{stops_unread}
 use Rattle.journal_office.proofs.office.AgainVisitor.stop.Goals as goal

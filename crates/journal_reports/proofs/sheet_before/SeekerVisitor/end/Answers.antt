@@ -1,5 +1,5 @@
 use Rattle.std.proofs.Common.{Err, sym, subst}
-use Rattle.office_desk.specs.Meant.{meaning_over}
+use Rattle.review_office.specs.Meant.{meaning_over}
 use Rattle.journal.specs.Told.{place}
 use Rattle.journal_office.specs.Rebuilt.{HasReplayed}
 use Rattle.journal_reports.specs.declared.sheet_before.Seeker.{Seeker}

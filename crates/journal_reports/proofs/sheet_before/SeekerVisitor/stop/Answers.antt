@@ -1,4 +1,4 @@
-use Rattle.office_desk.specs.Meant.{meaning_over}
+use Rattle.review_office.specs.Meant.{meaning_over}
 use Rattle.journal.specs.Told.{place}
 use Rattle.journal_office.proofs.Refusals.{left_behind}
 use Rattle.journal_reports.proofs.sheet_before.SeekerVisitor.stop.Goals as goal

@@ -1,0 +1,3 @@
+pub mod Extents
+pub mod Marks
+pub mod Numbers

@@ -1,0 +1,5 @@
+pub mod LeftFacts
+mod NoteFacts
+pub mod OutcomeFacts
+pub mod ServeFacts
+pub mod AskedFacts

@@ -1,0 +1,2 @@
+mod FlawFacts
+mod FormFacts

@@ -1,4 +1,0 @@
-pub mod Tables
-pub mod Changes
-pub mod Reads
-pub mod Lists

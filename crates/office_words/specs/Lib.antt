@@ -1,0 +1,10 @@
+pub mod Words
+pub mod Digests
+pub mod Limits
+pub mod Role
+pub mod WordTables
+pub mod Votes
+pub mod Tables
+pub mod Changes
+pub mod Reads
+pub mod Lists

@@ -1,5 +1,0 @@
-use Rattle.std.proofs.lemmas.Nat.{or_lt}
-use Rattle.review_policy.proofs.role.Roles.with.Goals as goal
-
-pub invariant_of-result : goal.invariant_of-result
-invariant_of-result c = or_lt 6 _ _ c.self.invariant c.mask_of.ensures.small
