@@ -1,0 +1,190 @@
+"""Files that another has open, that can't be read or written, or that aren't what they should be."""
+import json
+import os
+import shutil
+import socket
+import sqlite3
+import struct
+import subprocess
+import unittest
+from hashlib import sha256
+
+from program import FOUNDING, SURROUNDINGS, UNJOURNALED, Case, exchange, seals
+from test_limits import LONGEST as LONGEST_TEXT
+
+ENROL = json.dumps({"ask": "enrol", "token": "abc", "user": "ann", "team": "blue", "roles": ["author"], "digest": sha256(b"hello").hexdigest()}) + "\n"
+LIST = json.dumps({"ask": "list", "token": "hello", "team": "blue"}) + "\n"
+DONE = '{"answer":"done"}\n'
+SUBMITTED = '{"answer":"done","digest":"67d59648e3164479ed30407333c338a60764f60cd31c54ca1cd477602ac5e5d6","revision":1}\n'
+LISTED = '{"answer":"done","profiles":[{"issued":0,"profile":"web","revisions":1,"state":"open"}]}\n'
+BUSY = (1, "", "office: busy\n")
+SAME_FILE = (1, "", "office: same-file\n")
+NO_OFFICE = (1, "", "office: not-an-office\n")
+SEVERAL_PAGES = json.dumps({"capabilities": {}, "seccomp": {"defaultAction": "SCMP_ACT_LOG", "syscalls": [
+    {"action": "SCMP_ACT_ALLOW", "names": [f"call_{number:050}" for number in range(300)]}]}})
+
+
+def handed_in(profile, document):
+    return json.dumps({"ask": "submit", "token": "hello", "team": "blue", "profile": profile, "document": document}) + "\n"
+
+
+# a library before that of the system, by which each read of the program is interrupted
+INTERRUPTED = b"""#include <errno.h>
+#include <unistd.h>
+ssize_t read(int from, void *into, size_t most) { (void)from, (void)into, (void)most; errno = EINTR; return -1; }
+"""
+
+
+class Documents(Case):
+    def assert_unread(self, name, why, **more):
+        for words, status, said in ((["check", name], 1, ""), (["execve", name], 1, ""), (["compare", name, name], 2, "base: ")):
+            self.same(self.office(*words, **more), (status, "", f"office: {said}{why} {name}\n"), words)
+
+    def test_a_file_that_cannot_be_read_is_refused(self):
+        self.assert_unread("examples", "read")
+
+    @unittest.skipUnless(shutil.which("cc"), "cc isn't there")
+    def test_a_file_whose_reads_never_end_is_refused(self):
+        words = ["cc", "-shared", "-fPIC", "-x", "c", "-o", f"{self.folder}/interrupted.so", "-"]
+        subprocess.run(words, input=INTERRUPTED, check=True)
+        surroundings = {**SURROUNDINGS, "LD_PRELOAD": f"{self.folder}/interrupted.so"}
+        self.assert_unread("examples/web.json", "too-many-reads", env=surroundings)
+
+
+class Offices(Case):
+    def test_a_desk_that_ends_or_stops_leaves_all_in_the_one_file(self):
+        self.found()
+        self.remove_log()
+        self.stop_desk(ENROL, DONE)
+        self.remove_log()
+        self.same(self.office("desk", "it.db", given=handed_in("web", '{"capabilities":{}}')), (0, SUBMITTED, ""))
+        self.remove_log()
+        self.same(self.office("desk", "it.db", given=LIST), (0, LISTED, ""))
+
+    def remove_log(self):
+        if self.is_there("it.db-wal"):
+            os.remove(f"{self.folder}/it.db-wal")
+
+    def stop_desk(self, given, answered):
+        """Has a desk answer lines whose input fails then: it comes from a connection that is reset."""
+        with socket.create_server(("127.0.0.1", 0)) as listener:
+            sender = socket.create_connection(listener.getsockname())
+            reader, _ = listener.accept()
+        with reader:
+            process = self.start("desk", "it.db", stdin=reader)
+        sender.sendall(given.encode())
+        self.same(process.stdout.readline().decode(), answered)
+        sender.setsockopt(socket.SOL_SOCKET, socket.SO_LINGER, struct.pack("ii", 1, 0))
+        sender.close()
+        printed, said = self.finish(process)
+        self.same((process.returncode, printed, said), (1, "", "office: read\n"))
+
+    def test_an_office_that_is_open_is_busy(self):
+        self.found()
+        process, port = self.serve("it.db", "--requests", "1")
+        self.same(self.office("desk", "it.db", given=ENROL), BUSY)
+        self.same(self.office("init", "it.db", *FOUNDING), BUSY)
+        exchange(port, b"")
+        self.end(process, "fault ended\n")
+        self.same(self.office("desk", "it.db", given=ENROL), (0, DONE, ""))
+
+    def test_another_database_is_left_as_it_is(self):
+        with sqlite3.connect(f"{self.folder}/it.db") as database:
+            database.execute("CREATE TABLE note (id INTEGER PRIMARY KEY) STRICT")
+        database.close()
+        before = self.read("it.db")
+        self.same(self.office("desk", "it.db", given=LIST), NO_OFFICE)
+        self.same(self.office("init", "it.db", *FOUNDING), NO_OFFICE)
+        self.same(self.read("it.db"), before)
+        with sqlite3.connect(f"{self.folder}/it.db") as database:
+            database.execute("DROP TABLE note")
+        database.close()
+        self.same(self.office("init", "it.db", *FOUNDING), (0, "founded\n", UNJOURNALED))
+
+    def test_an_office_that_cannot_be_closed_is_told(self):
+        self.found()
+        self.same(self.office("desk", "it.db", given=ENROL + handed_in("long", LONGEST_TEXT))[0], 0)
+        # the log, which is short, may be written, but the file may not grow by what the log has
+        blocks = len(self.read("it.db")) // 512
+        limited = f"trap '' XFSZ; ulimit -f {blocks}; exec ./office desk it.db"
+        status, printed, said = self.office("-c", limited, program="sh", given=handed_in("web", SEVERAL_PAGES))
+        self.same((status, printed[:16], said), (1, DONE[:16], "office: disk\n"))
+        listed = json.loads(self.office("desk", "it.db", given=LIST)[1])
+        self.same([it["profile"] for it in listed["profiles"]], ["long", "web"])
+
+
+# another order, a space, another writing of a letter, a member too many, one too few, one twice, numbers out of range, a word, a digest and
+# roles that aren't of their forms, a kind that changes nothing, and no object
+NO_LINES = (
+    b'{"event":"hold","by":"sec","profile":"web","team":"blue"}',
+    b'{"by": "sec","event":"hold","profile":"web","team":"blue"}',
+    b'{"by":"\\u0073ec","event":"hold","profile":"web","team":"blue"}',
+    b'{"by":"sec","event":"hold","profile":"web","revision":1,"team":"blue"}',
+    b'{"event":"hold","profile":"web","team":"blue"}',
+    b'{"by":"sec","by":"sec","event":"hold","profile":"web","team":"blue"}',
+    b'{"by":"iss","event":"issue","profile":"web","revision":0,"team":"blue"}',
+    b'{"by":"iss","event":"issue","profile":"web","revision":10000,"team":"blue"}',
+    b'{"by":"Sec","event":"hold","profile":"web","team":"blue"}',
+    b'{"by":"rev","digest":"ab","event":"vote","profile":"web","revision":2,"team":"blue","vote":"reject"}',
+    b'{"by":"reg","digest":"' + b"ab" * 32 + b'","event":"enrol","roles":["security","author"],"team":"blue","user":"ann"}',
+    b'{"by":"ann","event":"show","profile":"web","revision":1,"team":"blue"}',
+    b"[]",
+    b"",
+)
+
+
+class Journals(Case):
+    def test_a_text_that_is_no_line_is_refused(self):
+        for text in NO_LINES:
+            with self.subTest(text):
+                self.write("it.journal", seals.sealed([text]))
+                self.same(self.office("history", "it.journal"), (1, "", "office: line 1: not-a-line\n"))
+
+    def test_a_journal_that_is_open_is_busy(self):
+        self.found(is_journaled=True)
+        shutil.copy(f"{self.folder}/it.db", f"{self.folder}/copy.db")
+        before = self.read("it.journal")
+        process, port = self.serve("it.db", "--requests", "1", "--journal", "it.journal")
+        self.same(self.office("desk", "copy.db", "--journal", "it.journal", given=ENROL), BUSY)
+        exchange(port, b"")
+        self.end(process, "fault ended\n")
+        self.same(self.office("desk", "copy.db", "--journal", "it.journal"), (0, "", ""))
+        self.assertFalse(self.is_there("it.journal-wal"))
+        self.same(self.read("it.journal"), before)
+
+    def test_an_event_that_a_fault_keeps_from_happening_is_struck_out(self):
+        self.found(is_journaled=True)
+        os.remove(f"{self.folder}/it.db-wal")
+        # nobody more can be enrolled: the greatest rowid of the users is taken
+        with sqlite3.connect(f"{self.folder}/it.db") as database:
+            database.execute("UPDATE users SET rowid = 9223372036854775807")
+        database.close()
+        before = seals.read(self.read("it.journal"))[0]
+        refused = '{"answer":"fault","word":"disk"}\n'
+        self.same(self.office("desk", "it.db", "--journal", "it.journal", given=ENROL), (0, refused, ""))
+        *events, enrolment, strike = seals.read(self.read("it.journal"))[0]
+        self.same((events, json.loads(enrolment)["user"], strike), (before, "ann", seals.STRIKE))
+
+    def test_a_founding_happens_once_and_is_that_of_the_office(self):
+        self.found(is_journaled=True)
+        founding = seals.read(self.read("it.journal"))[0][0]
+        twice = [founding, seals.done(1), founding, seals.done(3)]
+        another = [founding.replace(b'"root"', b'"ann"'), seals.done(1)]
+        for events, said in ((twice, "line 3: founding"), (another, "differs: users ann")):
+            self.write("it.journal", seals.sealed(events))
+            self.same(self.office("verify", "it.db", "it.journal"), (1, "", f"office: {said}\n"))
+
+    def assert_same_file(self, database, journal):
+        for words in (["init", database, *FOUNDING], ["desk", database], ["serve", database, "--requests", "1"]):
+            self.same(self.office(*words, "--journal", journal), SAME_FILE, words)
+        self.same(self.office("rebuild", database, journal), SAME_FILE)
+
+    def test_a_file_of_the_journal_is_no_database(self):
+        for ending in ("-wal", "-journal", "-shm"):
+            self.assert_same_file(f"it.journal{ending}", "it.journal")
+            self.assertFalse(self.is_there(f"it.journal{ending}"))
+
+    def test_a_file_of_the_database_is_no_journal(self):
+        for ending in ("", "-wal", "-journal", "-shm"):
+            self.assert_same_file("it.db", f"it.db{ending}")
+            self.assertFalse(self.is_there(f"it.db{ending}"))

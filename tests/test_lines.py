@@ -1,0 +1,57 @@
+"""Lines at the trial desk: when they are answered, and the largest answers."""
+import json
+from hashlib import sha256
+
+from program import Case
+from test_limits import LONGEST as LONGEST_TEXT
+
+EMPTY = '{"capabilities":{}}'
+DIGEST = "67d59648e3164479ed30407333c338a60764f60cd31c54ca1cd477602ac5e5d6"
+
+
+def enrol(user, role):
+    return {"ask": "enrol", "token": "abc", "user": user, "team": "blue", "roles": [role], "digest": sha256(f"t-{user}".encode()).hexdigest()}
+
+
+def ask(kind, user, profile="web", **more):
+    return {"ask": kind, "token": f"t-{user}", "team": "blue", "profile": profile, **more}
+
+
+class Lines(Case):
+    def test_each_line_is_answered_before_the_next_is_there(self):
+        requests, answers = (self.read(f"examples/first-path.{it}").splitlines(True) for it in ("jsonl", "out.jsonl"))
+        process = self.start()
+        for request, answer in zip(requests, answers):
+            process.stdin.write(request)
+            process.stdin.flush()
+            self.same(process.stdout.readline(), answer)
+        self.same((self.finish(process), process.returncode), (["", ""], 0))
+
+    def last_answer(self, requests):
+        """What a new office answers to the last of these."""
+        status, printed, said = self.office(given="".join(f"{json.dumps(it)}\n" for it in requests))
+        answers = printed.splitlines()
+        self.same((status, said, len(answers)), (0, "", len(requests)))
+        self.same({it[:16] for it in answers}, {'{"answer":"done"'})
+        return json.loads(answers[-1])
+
+    def test_six_hundred_profiles_of_a_team_are_listed(self):
+        names = [f"web-{number}" for number in range(600)]
+        submissions = [ask("submit", "ann", name, document=EMPTY) for name in names]
+        listed = self.last_answer([enrol("ann", "author"), *submissions, {"ask": "list", "token": "t-ann", "team": "blue"}])
+        self.same([it["profile"] for it in listed["profiles"]], sorted(names))
+
+    def test_a_sheet_has_the_votes_of_thirty_reviewers(self):
+        reviewers = [f"rev-{number}" for number in range(30)]
+        votes = [it for name in reviewers for it in (enrol(name, "reviewer"), ask("vote", name, revision=1, digest=DIGEST, vote="approve"))]
+        begun = [enrol("ann", "author"), ask("submit", "ann", document=EMPTY)]
+        sheet = self.last_answer([*begun, *votes, ask("sheet", "ann", revision=1)])["sheet"]
+        approvals = "".join(f"  {name} approve\n" for name in sorted(reviewers))
+        self.assertTrue(sheet.endswith(f"\nvotes: 30\n{approvals}approvals: 30\nrejections: 0\n"), sheet)
+
+    def test_the_sheet_of_the_longest_document_is_written(self):
+        begun = [enrol("ann", "author"), ask("submit", "ann", document=LONGEST_TEXT)]
+        sheet = self.last_answer([*begun, ask("sheet", "ann", revision=1)])["sheet"]
+        self.assertGreater(len(sheet), 250_000)
+        self.assertIn("\nentries: 6\nentry 1: ", sheet)
+        self.assertTrue(sheet.endswith("\nrejections: 0\n"))
