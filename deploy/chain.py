@@ -39,14 +39,14 @@ def need(*tools):
             sys.exit(77)
 
 
-# The program that is named, the one that tools/install put beside this folder, or the one that ./office built.
+# The program that is named, the one that tools/install put beside this folder, or that of this checkout.
 def program_of(words):
     installed = f"{DEPLOY}/../../../bin/office"
     program = installed if os.access(installed, os.X_OK) else f"{TOP}/crates/office_program/out/office_program"
     if words:
         program = words[0]
     if not os.access(program, os.X_OK):
-        print(f"{NAME}: there is no program {program}: ./office builds it", file=sys.stderr)
+        print(f"{NAME}: there is no program {program}: ./office prove builds it", file=sys.stderr)
         sys.exit(77)
     return os.path.abspath(program)
 
@@ -203,7 +203,7 @@ class Chain:
             text = replaced(text, r"proxy_pass http://office_1;", "return 403;")
         text = replaced(text, r"keepalive_timeout +30s;", f"keepalive_timeout {kept};")
         if unlimited:
-            text = replaced(text, r"rate=\d+r/s", "rate=1000000r/s")
+            text = replaced(text, r"rate=\d+r/[sm]", "rate=1000000r/s")
             text = replaced(text, r"burst=\d+", "burst=100000")
             text = replaced(text, r"limit_conn( +)office_callers \d+;", "limit_conn office_callers 60000;")
         self.write("office.conf", text)
