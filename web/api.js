@@ -1,5 +1,7 @@
 // Asks the office over HTTP, as anybody does.
 
+import { isText, wrongIn } from './forms.js';
+
 /** How long a request may take, in seconds: longer than a request waits for its turn behind deploy/haproxy.cfg. */
 const SECONDS = 60;
 /** How many times what only reads is asked again, where the proxy says that one asked too often. */
@@ -7,8 +9,9 @@ const TIMES = 6;
 
 /**
  * @typedef {{ team?: string, profile?: string, revision?: number, before?: number, user?: string }} About what a request is about
- * @typedef {{ status: number, text: string, bytes: ArrayBuffer, json: any, done: boolean, lost: 'time' | 'connection' | null,
- *   seconds: number }} Answer an answer; `json` where it is one of the office, `lost` where none came
+ * @typedef {{ status: number, text: string, bytes: ArrayBuffer, json: any, done: boolean, wrong: string | null,
+ *   lost: 'time' | 'connection' | null, seconds: number }} Answer an answer; `json` where it is one of the office, `wrong` the path of
+ *   what isn't of its form in one that says it is done, `lost` where none came
  */
 
 /**
@@ -63,7 +66,8 @@ function answerOf(text) {
  */
 export function asker({ token, fetch, sleep, seconds = SECONDS, heard = () => {} }) {
   /** @returns {Promise<Answer & { again: number }>} */
-  async function once(method, target, body) {
+  async function once(shown, kind, about, body) {
+    const [method, target] = REQUESTS[kind];
     const stop = new AbortController();
     const late = setTimeout(() => stop.abort(), seconds * 1000);
     /** @type {Response} */
@@ -71,35 +75,39 @@ export function asker({ token, fetch, sleep, seconds = SECONDS, heard = () => {}
     /** @type {ArrayBuffer} */
     let bytes;
     try {
-      response = await fetch(target, {
+      response = await fetch(target(about), {
         method, body, cache: 'no-store', credentials: 'omit', redirect: 'error', referrerPolicy: 'no-referrer',
-        headers: { Authorization: `Bearer ${token()}` }, signal: stop.signal,
+        headers: { Authorization: `Bearer ${shown}` }, signal: stop.signal,
       });
       bytes = await response.arrayBuffer();
     } catch {
-      return { status: 0, text: '', bytes: new ArrayBuffer(0), json: null, done: false,
+      return { status: 0, text: '', bytes: new ArrayBuffer(0), json: null, done: false, wrong: null,
         lost: stop.signal.aborted ? 'time' : 'connection', seconds, again: 0 };
     } finally {
       clearTimeout(late);
     }
     const text = new TextDecoder('utf-8', { ignoreBOM: true }).decode(bytes);
-    return { status: response.status, text, bytes, json: answerOf(text), done: response.status === 200, lost: null, seconds,
+    const json = answerOf(text);
+    const said = response.status === 200 && (isText(kind) || json?.answer === 'done');
+    const wrong = said ? wrongIn(kind, about, json) : null;
+    return { status: response.status, text, bytes, json, done: said && wrong === null, wrong, lost: null, seconds,
       again: Number(response.headers.get('Retry-After')) || 1 };
   }
 
   /**
-   * Asks once; what only reads again, where the proxy says that one asked too often, after as long as it says and a part more.
+   * Asks once; what only reads again, where the proxy says that one asked too often, after as long as it says and a part more. What is
+   * answered after the token was forgotten is heard no more.
    * @param {string} kind
    * @param {About} about
    * @param {any} [body]
    * @returns {Promise<Answer>}
    */
   return async function ask(kind, about, body) {
-    const [method, target] = REQUESTS[kind];
+    const shown = token();
     for (let times = 1; ; times++) {
-      const answer = await once(method, target(about), body);
-      if (answer.status !== 429 || method !== 'GET' || times === TIMES) {
-        heard(kind, about, answer);
+      const answer = await once(shown, kind, about, body);
+      if (answer.status !== 429 || REQUESTS[kind][0] !== 'GET' || times === TIMES) {
+        if (token() === shown) heard(kind, about, answer);
         return answer;
       }
       await sleep(1000 * answer.again * (1 + Math.random()));

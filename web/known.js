@@ -29,8 +29,8 @@ export class Known {
     const word = json?.answer === 'denied' ? json.word : '';
     this.unknown = word === 'caller-unknown' || (this.unknown && !done && !word);
     if (this.unknown) this.me = null;
-    if (kind === 'me' && done && Array.isArray(json?.roles)) {
-      this.me = { user: String(json.user), team: String(json.team), roles: json.roles };
+    if (kind === 'me' && done) {
+      this.me = { user: json.user, team: json.team, roles: json.roles };
       this.roles = new Map(ROLES.map((role) => [role, json.roles.includes(role)]));
     } else if (done || (word && word !== 'caller-unknown')) {
       const roles = rolesFor(kind);

@@ -2,6 +2,7 @@
 
 import { asker } from './api.js';
 import { at, button, el, link, notice } from './elements.js';
+import { DIGEST, NUMBER, TOKEN, WORD } from './forms.js';
 import { Known } from './known.js';
 import { lostSaid, refusal } from './refusals.js';
 import { listed } from './words.js';
@@ -20,11 +21,6 @@ export const self = () => memory.known.me?.user ?? '';
 
 /** The token over a reload, where that was chosen. */
 export const tab = tabToken(() => sessionStorage);
-
-export const WORD = /^[a-z0-9-]{1,64}$/;
-export const TOKEN = /^[\x21-\x7e]{1,128}$/;
-const NUMBER = /^[1-9][0-9]{0,3}$/;
-const DIGEST = /^[0-9a-f]{64}$/;
 
 /** No answer came to what only reads. */
 class Lost extends Error {
@@ -401,9 +397,8 @@ export async function carry(pressed, kind, decided, done, body) {
       return;
     }
     const before = await draw(false);
-    if (answer.done && answer.json?.answer === 'done') {
-      say('done', done, '', before);
-    } else say('refused', ...refusal(kind, answer, about));
+    if (answer.done) say('done', done, '', before);
+    else say('refused', ...refusal(kind, answer, about));
   } finally {
     for (const one of buttons) one.removeAttribute('aria-disabled');
   }

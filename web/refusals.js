@@ -142,13 +142,16 @@ export const lostSaid = (lost, seconds) =>
 /**
  * The sentence, the rule and the way out of an answer that isn't done.
  * @param {string} kind
- * @param {{ status: number, json: any, lost: 'time' | 'connection' | null, seconds?: number }} answer
+ * @param {{ status: number, json: any, wrong?: string | null, lost: 'time' | 'connection' | null, seconds?: number }} answer
  * @param {object} [about]
  * @returns {[string, string, string]}
  */
 export function refusal(kind, answer, about) {
   const { status, json } = answer;
   if (answer.lost) return [lostSaid(answer.lost, answer.seconds), '', 'Look whether you reach the office.'];
+  if (typeof answer.wrong === 'string') return ['What came is no answer of the office to this.',
+    `Not of its form: ${answer.wrong || 'the whole'}`, 'It was changed on the way, or the page and the office are of two versions. Look '
+      + 'what stands in the office, and tell those who run the proxy.'];
   if (json?.answer === 'denied') {
     const [says, way] = (REFUSALS[json.word] ?? (() => ['The office refuses this.', '']))(kind, json, about ?? {});
     // what these say of themselves is all of it, or of other requests too

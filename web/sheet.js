@@ -1,15 +1,16 @@
 // Review sheets: the facts of one, the sheet that a document makes, and what is another in two readings of one.
 
 import { CAPABILITIES, SETS, takesErrno } from './document.js';
+import { NUMBER, WORD } from './forms.js';
 import { missing } from './refusals.js';
-import { findings } from './widening.js';
+import { findings, possible } from './widening.js';
 import { listed } from './words.js';
 
 /** @typedef {import('./document.js').Profile} Profile */
 /**
  * @typedef {{ name: string, vote: string, security: boolean, lapsed: boolean }} Vote
- * @typedef {{ text: string, value: (name: string) => string, findings: string[], votes: Vote[], need: number, approvals: number,
- *   rejecting: string[], secured: boolean }} Sheet
+ * @typedef {{ text: string, value: (name: string) => string, baseline: { profile: string, revision: number } | null, findings: string[],
+ *   votes: Vote[], need: number, approvals: number, rejecting: string[], secured: boolean }} Sheet `baseline` where it isn't the closed profile
  */
 
 /**
@@ -36,13 +37,16 @@ export function readSheet(text) {
   }
   const value = (name) => facts.get(name)?.value ?? '';
   const under = (name) => facts.get(name)?.below ?? [];
+  const [profile, revision = '', ...rest] = value('baseline').split(' ');
+  const closed = value('baseline') === 'closed';
+  if (!closed && (!WORD.test(profile) || !NUMBER.test(revision) || rest.length)) return null;
   const votes = under('votes').map((line) => {
     const [name, vote, note] = line.split(' ');
     return { name, vote, security: note === 'security', lapsed: note === 'lapsed' };
   });
   const counts = votes.filter((one) => !one.lapsed);
   return {
-    text, value, findings: under('findings'), votes,
+    text, value, baseline: closed ? null : { profile, revision: Number(revision) }, findings: under('findings'), votes,
     need: value('need').startsWith('2') ? 2 : 1,
     approvals: Number(value('approvals')),
     rejecting: counts.filter((one) => one.vote === 'reject').map((one) => one.name),
@@ -74,16 +78,17 @@ function filterLines(filter) {
 }
 
 /**
- * The sheet that a document makes against a baseline. What no document says, as its state and the votes, is as the sheet has it.
+ * The sheet that a document makes against a baseline. What no document says, as its state and the votes, is as the sheet has it; and where
+ * the baseline can't be read so are the findings that the document can have.
  * @param {{ team: string, profile: string, revision: number, digest: string }} about
  * @param {Sheet} sheet
  * @param {Profile} profile
- * @param {Profile} base
+ * @param {Profile | null} base
  * @param {Set<string>} listedHere what this office has listed, as its sheets have shown
  */
 export function sheetOf(about, sheet, profile, base, listedHere) {
   const { sets } = profile;
-  const found = findings(base, profile);
+  const found = base ? findings(base, profile) : possible(sheet.findings, profile);
   const said = sheet.value('listed').split(' ');
   const inList = holds(profile).filter((one) => listedHere.has(one) || said.includes(one));
   const root = caps(union(sets.inheritable, sets.bounding));

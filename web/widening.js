@@ -130,6 +130,21 @@ export function findings(base, now) {
   return found;
 }
 
+/**
+ * Those of these lines that a profile can have as findings, whatever its baseline is. The closed profile permits least, so no baseline
+ * leaves more to be found, but for calls that only the baseline names and for the architectures where the profile lists none.
+ * @param {string[]} lines
+ * @param {Profile} profile
+ * @returns {string[]}
+ */
+export function possible(lines, profile) {
+  const most = new Set(findings(CLOSED, profile));
+  if (profile.filter?.architectures.length === 0) most.add('architecture any');
+  const named = new Set(profile.filter?.entries.flatMap((entry) => entry.names));
+  const unnamed = (line) => most.has('default') && /^call [a-z0-9_]{1,64}$/.test(line) && !named.has(line.slice(5));
+  return [...new Set(lines)].filter((line) => most.has(line) || unnamed(line));
+}
+
 /** The actions that let a call happen. */
 const PERMITS = ['SCMP_ACT_LOG', 'SCMP_ACT_ALLOW'];
 

@@ -1,5 +1,6 @@
-// What the office's words mean. Each sentence stands here alone: the tables of docs/policy.md, docs/http.md and docs/documents.md are made
-// of these by `web/test/unit --write`, so a sentence is written as those files are, and `plain` is it without their marks.
+// What the office's words mean. Each sentence stands here alone: the tables of docs/policy.md are made of these by `tools/policy --write`,
+// and those of docs/http.md and docs/documents.md by `web/test/unit --write`. So a sentence is written as those files are, and `plain` is it
+// without their marks.
 
 /**
  * A sentence of a document as plain text.
@@ -71,18 +72,16 @@ export const listed = (words, last = 'and') =>
   (words.length < 2 ? words.join('') : `${words.slice(0, -1).join(', ')} ${last} ${words.at(-1)}`);
 
 /**
- * Where each rule refuses; words that a table tells together stand together.
+ * Where each rule refuses; words that a table tells together stand together. Of the roles and the teams the office's definitions say more.
  * @type {[string[], string][]}
  */
 export const RULES = [
   [['caller-unknown'], "no user's present digest is that of the token"],
-  [['role-missing'], `the caller lacks the role. It is ${NEEDED.map(([roles, kinds]) =>
-    `${listed(roles, 'or')} for ${listed(kinds.map((kind) => `\`${kind}\``))}`).join('. It is ')}`],
+  [['role-missing'], 'the caller lacks the role'],
   [['own-row'], 'the user to be enrolled is the caller'],
   [['team-fixed'], 'the user is enrolled already, in another team'],
   [['token-taken'], 'another user shows this digest now'],
-  [['other-team'], 'the caller is of another team. For `show`, `sheet`, `list` and `revisions` a reviewer, security or an issuer '
-    + 'passes; for `withdraw` security does'],
+  [['other-team'], 'the caller is of another team'],
   [['document'], "the document doesn't read; the answer names its fault"],
   [['same-as-open'], "the document's canonical text is that of the profile's open revision"],
   [['revisions-full'], 'the profile has 9,999 revisions'],

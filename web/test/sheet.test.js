@@ -47,6 +47,28 @@ test('what a sheet leaves out is told', () => {
   assert.deepEqual(against(turned, TEXT), { left: ['its lines, in their order'], beyond: [] });
 });
 
+test('what a sheet leaves out is told without its baseline, but for findings that the document can have', () => {
+  const sheet = (...pairs) => pairs.reduce((text, [from, by]) => text.replace(from, by), TEXT.replace('baseline: closed', 'baseline: api 3'));
+  const told = (text) => against(text, sheetOf(ABOUT, readSheet(text), PROFILE, null, none));
+  assert.deepEqual(told(sheet()), { left: [], beyond: [] });
+  // no line is left out that needs no baseline
+  assert.deepEqual(told(sheet(['bounding: CAP_NET_BIND_SERVICE', 'bounding: none'], ['root effective: CAP_NET_BIND_SERVICE', 'root effective: none'])),
+    { left: ['bounding: CAP_NET_BIND_SERVICE', 'root effective: CAP_NET_BIND_SERVICE'], beyond: ['bounding: none', 'root effective: none'] });
+  // the need is that of the findings, of which there are as many as are told, and none that the document can't have
+  assert.deepEqual(told(sheet(['need: 2 with security', 'need: 1'])), { left: ['need: 2 with security'], beyond: ['need: 1'] });
+  assert.deepEqual(told(sheet(['findings: 2\n', 'findings: 1\n'])), { left: ['findings: 2'], beyond: ['findings: 1'] });
+  assert.deepEqual(told(sheet(['  no-seccomp\n', '  call read\n'])), { left: ['findings: 1'], beyond: ['findings: 2', 'call read'] });
+});
+
+test('a baseline is a name and a number, or the closed profile', () => {
+  const named = (said) => readSheet(TEXT.replace('baseline: closed', `baseline: ${said}`));
+  assert.equal(named('closed').baseline, null);
+  assert.deepEqual(named('api 3').baseline, { profile: 'api', revision: 3 });
+  for (const said of ['../../../issued/x 1', 'api', 'api 0', 'api 03', 'api 3 4', 'api  3', 'Api 3', 'api 10000', 'api 1e3', 'closed 1x', ' 3', '', 'none']) {
+    assert.equal(named(said), null, said);
+  }
+});
+
 test('what is another on the second reading is told', () => {
   const old = readSheet(TEXT);
   assert.deepEqual(changes(old, readSheet(TEXT)), []);

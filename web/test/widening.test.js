@@ -1,7 +1,7 @@
 import assert from 'node:assert/strict';
 import test from 'node:test';
 import { readDocument } from '../document.js';
-import { CLOSED, findings, implies, permits } from '../widening.js';
+import { CLOSED, findings, implies, permits, possible } from '../widening.js';
 
 const of = (value) => readDocument(new TextEncoder().encode(typeof value === 'string' ? value : JSON.stringify(value))).profile;
 const filter = (syscalls, more = {}) => of({ capabilities: {}, seccomp: { defaultAction: 'SCMP_ACT_ERRNO', syscalls, ...more } });
@@ -65,6 +65,25 @@ test('findings stand in their order, each once', () => {
   assert.deepEqual(findings(filter([{ names: ['bpf'], action: 'SCMP_ACT_KILL' }]), filter([])), ['call bpf']);
   // one error number for another is nothing
   assert.deepEqual(findings(filter([], { defaultErrnoRet: 1 }), filter([], { defaultErrnoRet: 38 })), []);
+});
+
+test('what a profile can have as findings, whatever the baseline is', () => {
+  const capabilities = { permitted: ['CAP_KILL'] };
+  const allow = (names, args = []) => ({ names, action: 'SCMP_ACT_ALLOW', args });
+  const some = of({ capabilities, seccomp: { defaultAction: 'SCMP_ACT_ERRNO', syscalls: [allow(['read'])] } });
+  const lines = ['capability permitted CAP_KILL', 'architecture any', 'call open', 'call read', 'default'];
+  assert.deepEqual(possible([...lines, ...lines], some), lines);
+  assert.deepEqual(possible(['capability effective CAP_KILL', 'capability permitted CAP_CHOWN', 'capability constructor CAP_KILL', 'no-seccomp',
+    'architecture SCMP_ARCH_ARM', 'flag SECCOMP_FILTER_FLAG_LOG', 'call <b>', 'call', 'x', ''], some), []);
+  assert.deepEqual(possible(['no-seccomp', ...lines], of({ capabilities })), ['no-seccomp', lines[0]]);
+  // where all that isn't named is ended, nothing else can be permitted more
+  const least = of({ capabilities: {}, seccomp: { defaultAction: 'SCMP_ACT_KILL_PROCESS', architectures: ['SCMP_ARCH_ARM'],
+    syscalls: [allow(['read']), { names: ['bpf'], action: 'SCMP_ACT_KILL_PROCESS' }] } });
+  assert.deepEqual(possible(['architecture any', 'architecture SCMP_ARCH_ARM', 'call bpf', 'call open', 'call read', 'default'], least),
+    ['architecture SCMP_ARCH_ARM', 'call read']);
+  // what is found against any other profile is among what can be
+  const bases = [CLOSED, some, least, filter([allow(['open', 'bpf'])]), filter([], { architectures: ['SCMP_ARCH_X86'] }), of('{"capabilities":{}}')];
+  for (const base of bases) for (const now of bases) assert.deepEqual(possible(findings(base, now), now), findings(base, now));
 });
 
 test('what a filter permits', () => {

@@ -9,7 +9,6 @@ const marked = (word) => `\`${word}\``;
 
 // The tables that are made of the words, each with the line above it and its rows.
 const TABLES = [
-  ['policy.md', '| word | refuses where |', RULES.map(([words, where]) => [words.map(marked).join(', '), where])],
   ['documents.md', '| text | cause |', DOCUMENT_FAULTS.map(([text, cause]) => [marked(text), cause])],
   ['http.md', '| word | says | what to do |', STORE_FAULTS.map(([word, says, what]) => [marked(word), says, what])],
   ['http.md', '| step | what has to be so | status | word |', NO_REQUEST.map((row, index) => [String(index + 1), ...row])],
@@ -27,12 +26,9 @@ for (const [name, head, rows] of TABLES) {
   });
 }
 
-test('each word of the rules of docs/policy.md has its sentence, and there is no other', () => {
-  const table = readFileSync(page('policy.md')).toString().split('\n').filter((line) => line.split('|').length === 12).slice(1);
-  const words = new Set(table.flatMap((row) => [...row.split('|').slice(2).join('|').matchAll(/`([a-z-]+)`/g)].map(([, word]) => word)));
-  assert.deepEqual(new Set(RULES.flatMap(([own]) => own)), words);
+test('each word of a rule is refused by a sentence, the rule and a way out', () => {
   const about = { team: 'blue', profile: 'web', revision: 1, user: 'ann' };
-  for (const word of words) {
+  for (const word of RULES.flatMap(([words]) => words)) {
     const json = { answer: 'denied', rule: 3, word, fault: 'not-json', got: 0, need: 2 };
     const [says, rule, way] = refusal('vote', { status: 403, lost: null, json }, about);
     assert.ok(says && way && says !== 'The office refuses this.' && rule.startsWith(`Refused by rule 3 of vote: ${word}`), word);

@@ -11,13 +11,11 @@ export async function compareView(now) {
   const whole = `${team}/${profile}`;
   const title = [el('p', { class: 'crumbs' }, link(`profile/${whole}/${now.other}`, whole)),
     el('h1', { tabindex: '-1', 'data-first': true }, `Compare revisions ${now.revision} and ${now.other} of ${whole}`)];
-  const list = await read('list', { team });
-  if (!list.done || !list.json?.profiles) return [title, refused('list', list, { team })];
-  const own = list.json.profiles.find((one) => one.profile === profile);
-  if (!own) return [title, el('p', { class: 'empty' }, `The team ${team} has no profile ${profile}.`)];
+  const newest = await read('revisions', { team, profile });
+  if (!newest.done) return [title, refused('revisions', newest, now)];
   const [old, next] = await Promise.all([now.revision, now.other].map((revision) => documentOf({ team, profile, revision })));
   const choice = (id, label, value) => el('p', { class: 'field' }, el('label', { for: id }, label),
-    el('input', { id, type: 'number', min: '1', max: String(own.revisions), value: String(value), required: true }));
+    el('input', { id, type: 'number', min: '1', max: String(newest.json.revisions[0].revision), value: String(value), required: true }));
   const go = (event) => {
     event.preventDefault();
     to(`compare/${whole}/${Number(at('older').value)}/${Number(at('newer').value)}`);

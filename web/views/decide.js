@@ -21,6 +21,8 @@ function whyNot(about, reading) {
   { role: 'alert', id: 'no-vote' });
   if (reading.left.length || reading.beyond.length) return notice('refused', [`The sheet isn’t the one of this document, ${notHere}.`, '',
     'What it leaves out stands beside its findings.'], { role: 'alert', id: 'no-vote' });
+  if (reading.unseen) return notice('refused', [`${reading.unseen}, ${notHere}.`, '',
+    'Load it anew; if it stays so, tell those who run the proxy.'], { role: 'alert', id: 'no-vote' });
   return null;
 }
 

@@ -37,7 +37,7 @@ export function opened(text) {
 export async function documentOf(about, asking = read) {
   const answer = await asking('show', about);
   const wrong = (instead) => ({ profile: null, instead, digest: '', state: '' });
-  if (!answer.done || typeof answer.json?.document !== 'string') return wrong(refused('show', answer, about));
+  if (!answer.done) return wrong(refused('show', answer, about));
   const { document: text, digest, state } = answer.json;
   const name = `revision ${about.revision} of ${about.team}/${about.profile}`;
   if (await sha256(text) !== digest) return wrong(el('p', { class: 'notice refused inline' },
@@ -55,9 +55,7 @@ export async function documentOf(about, asking = read) {
  * @returns {Promise<{ profile: Profile | null, instead: any }>}
  */
 export async function baselineOf(team, sheet, asking = read) {
-  const [profile, number] = sheet.value('baseline').split(' ');
-  if (number === undefined) return { profile: CLOSED, instead: null };
-  return documentOf({ team, profile, revision: Number(number) }, asking);
+  return sheet.baseline ? documentOf({ team, ...sheet.baseline }, asking) : { profile: CLOSED, instead: null };
 }
 
 /**

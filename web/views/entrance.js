@@ -1,7 +1,8 @@
 // Where one shows a token.
 
 import { at, el, field } from '../elements.js';
-import { TOKEN, areNames, ask, draw, hush, memory, place, say, tab, to } from '../page.js';
+import { TOKEN } from '../forms.js';
+import { areNames, ask, draw, hush, memory, place, say, tab, to } from '../page.js';
 
 export function entranceView() {
   const enter = async (event) => {

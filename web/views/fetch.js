@@ -3,7 +3,7 @@
 import { sha256 } from '../api.js';
 import { at, button, el, field, some } from '../elements.js';
 import { indented } from '../json.js';
-import { alone, areNames, memory, say, sent } from '../page.js';
+import { alone, areNames, memory, say, sent, stays } from '../page.js';
 import { refusal } from '../refusals.js';
 import { opened } from './differing.js';
 
@@ -19,12 +19,14 @@ async function look() {
   const about = named();
   const answer = about && await sent('fetch-look', 'issued', about, undefined, () => alone(look));
   if (!answer) return;
-  if (!answer.done || !answer.json) return say('refused', ...refusal('issued', answer, about));
+  if (!answer.done) return say('refused', ...refusal('issued', answer, about));
   const { revision, digest } = answer.json;
   say('done', `Revision ${revision} of ${about.team}/${about.profile} is issued, with the digest ${digest}.`);
 }
 
+// Fetches, and says what came of it, also where one has gone to another place meanwhile.
 async function send() {
+  const here = stays();
   const about = named();
   if (!about) return;
   const { team, profile } = about;
@@ -32,14 +34,18 @@ async function send() {
   if (!answer) return;
   if (!answer.done) return say('refused', ...refusal('fetch', answer, { team, profile }));
   const digest = await sha256(answer.bytes);
-  const { node } = opened(answer.text);
+  if (here()) show(answer.text, digest);
+  say('done', `${team}/${profile} was fetched: ${some(answer.bytes.byteLength, 'byte')}, with the digest ${digest}.`);
+}
+
+function show(text, digest) {
+  const { node } = opened(text);
   at('fetched').replaceChildren(el('h2', {}, 'What was fetched'),
     el('p', {}, 'SHA-256 of it: ', el('code', { id: 'fetched-digest', class: 'digest' }, digest)),
     el('p', { class: 'notice plain inline' },
       'This is a whole document. An engine that is given it as its seccomp file sets no filter at all, and says nothing: '
         + 'give it the member “seccomp” alone, and read back what the engine wrote.'),
-    el('pre', { id: 'fetched-text', tabindex: '0', role: 'region', 'aria-label': 'What was fetched' }, node ? indented(node) : answer.text));
-  say('done', `${team}/${profile} was fetched: ${some(answer.bytes.byteLength, 'byte')}, with the digest ${digest}.`);
+    el('pre', { id: 'fetched-text', tabindex: '0', role: 'region', 'aria-label': 'What was fetched' }, node ? indented(node) : text));
 }
 
 /** @param {import('../page.js').Place} now */

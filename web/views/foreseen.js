@@ -7,6 +7,7 @@ import { holds, readSheet, wouldNeed } from '../sheet.js';
 import { CLOSED, findings } from '../widening.js';
 import { baselineOf, differing, documentOf } from './differing.js';
 import { findingsList } from './findings.js';
+import { standing } from './revisions.js';
 import { holdSaid, refused } from './teams.js';
 
 /** @typedef {import('../document.js').Profile} Profile */
@@ -18,15 +19,22 @@ import { holdSaid, refused } from './teams.js';
  * @param {Profile} profile
  */
 export async function foreseen(about, profile) {
-  const list = await ask('list', about);
-  if (list.lost) return notice('plain', [`${lostSaid(list.lost, list.seconds)} So it is compared with nothing.`]);
-  if (!list.done) return notice('plain', [`It is compared with nothing. ${refusal('list', list, about)[0]}`]);
-  const { profiles } = list.json;
-  return [await foundAgainstBaseline(about, profiles, profile), await comparedWithIssued(about, profiles, profile)];
+  const { own, answer } = await standing(about, ask);
+  const isNew = answer.json?.word === 'no-profile';
+  if (!own && !isNew) return unknown('revisions', answer, about);
+  // of a new profile nothing is there, so another one of the team is looked for
+  const list = isNew ? await ask('list', about) : null;
+  if (list && !list.done) return unknown('list', list, about);
+  const one = list ? list.json.profiles[0] : { profile: about.profile, revisions: own.revisions };
+  return [await foundAgainstBaseline(about, one, profile), await comparedWithIssued(about, own, profile)];
 }
 
-async function foundAgainstBaseline(about, profiles, profile) {
-  const base = await presentBaseline(about, profiles);
+// Why a document is compared with nothing.
+const unknown = (kind, answer, about) => notice('plain', [answer.lost
+  ? `${lostSaid(answer.lost, answer.seconds)} So it is compared with nothing.` : `It is compared with nothing. ${refusal(kind, answer, about)[0]}`]);
+
+async function foundAgainstBaseline(about, one, profile) {
+  const base = await presentBaseline(about, one);
   const card = (...inside) => el('section', { class: 'findings foreseen', id: 'hand-findings', 'aria-labelledby': 'hand-findings-title' },
     el('h2', { id: 'hand-findings-title' }, 'What the office would find'), inside);
   if (!base.profile) return card(base.instead);
@@ -40,24 +48,21 @@ async function foundAgainstBaseline(about, profiles, profile) {
 /**
  * The team's present baseline, which each sheet of the team names, or what to show in its place. A team without a profile has none.
  * @param {About} about
- * @param {any[]} profiles
+ * @param {{ profile: string, revisions: number } | undefined} one a profile of the team
  * @returns {Promise<{ profile: Profile | null, instead: any, name: string }>}
  */
-async function presentBaseline(about, profiles) {
+async function presentBaseline(about, one) {
   const closed = { profile: CLOSED, instead: null, name: 'the closed profile, since no adopted revision stands' };
-  const one = profiles.find((each) => each.profile === about.profile) ?? profiles[0];
   if (!one) return closed;
   const of = { team: about.team, profile: one.profile, revision: one.revisions };
   const told = await ask('sheet', of);
   const sheet = told.done ? readSheet(told.text) : null;
   if (!sheet) return { profile: null, instead: refused('sheet', told, of), name: '' };
-  const named = sheet.value('baseline');
-  return named === 'closed' ? closed : { ...await baselineOf(about.team, sheet, ask), name: `the team’s baseline, ${named}` };
+  return sheet.baseline ? { ...await baselineOf(about.team, sheet, ask), name: `the team’s baseline, ${sheet.value('baseline')}` } : closed;
 }
 
 // What differs from the revision that is issued, or why that isn't known.
-async function comparedWithIssued(about, profiles, profile) {
-  const own = profiles.find((one) => one.profile === about.profile);
+async function comparedWithIssued(about, own, profile) {
   if (!own) return el('p', { id: 'hand-differs' }, `${about.team}/${about.profile} is a new profile.`);
   if (!own.issued) return el('p', { id: 'hand-differs' }, `It will be revision ${own.revisions + 1}. No revision is issued, so there is `
     + 'nothing to compare.');

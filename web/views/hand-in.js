@@ -3,8 +3,9 @@
 import { sha256 } from '../api.js';
 import { Fault, MOST_BYTES, readDocument } from '../document.js';
 import { at, el, field, link, notice, some } from '../elements.js';
+import { WORD } from '../forms.js';
 import { indented, readJson } from '../json.js';
-import { WORD, alone, areNames, memory, say, sent } from '../page.js';
+import { alone, areNames, memory, say, sent, stays } from '../page.js';
 import { faultSaid, refusal } from '../refusals.js';
 import { foreseen } from './foreseen.js';
 import { textLink } from './text-link.js';
@@ -12,13 +13,19 @@ import { textLink } from './text-link.js';
 /** What was looked at last, so that an older look says nothing. */
 let look = 0;
 
+/**
+ * The digest that the page worked out of each file.
+ * @type {WeakMap<File, string>}
+ */
+const digests = new WeakMap();
+
 // Reads the chosen file as the office does, and shows it as it will stand, with what the office would find and what differs from what is
 // issued.
 async function check() {
-  const mine = ++look;
+  const [mine, here] = [++look, stays()];
   const file = at('hand-file').files[0];
   const [team, profile] = [at('hand-team').value.trim(), at('hand-profile').value.trim()];
-  const show = (...parts) => { if (mine === look) at('hand-checked')?.replaceChildren(...parts.flat(Infinity).filter(Boolean)); };
+  const show = (...parts) => { if (mine === look && here()) at('hand-checked').replaceChildren(...parts.flat(Infinity).filter(Boolean)); };
   if (!file) return show();
   if (file.size > MOST_BYTES) return show(notice('refused', [`${file.name} has ${file.size} bytes, so it can’t be handed in.`,
     'Found by the page: too-long', faultSaid('too-long')[1]], { id: 'hand-fault' }));
@@ -31,6 +38,7 @@ async function check() {
     return show(notice('refused', [`${file.name}: ${says}`, `Found by the page: ${error.fault}`, way], { id: 'hand-fault' }));
   }
   const digest = await sha256(made.text);
+  digests.set(file, digest);
   const stands = [el('h2', {}, 'As it will stand'),
     el('p', {}, `${some(made.text.length, 'byte')}, with the digest `, el('code', { id: 'hand-digest', class: 'digest' }, digest)),
     el('details', {}, el('summary', {}, 'Its canonical text'),
@@ -41,7 +49,9 @@ async function check() {
   show(stands, await foreseen({ team, profile }, made.profile));
 }
 
+// Hands in, and says what came of it, also where one has gone to another place meanwhile.
 async function send() {
+  const here = stays();
   const [team, profile] = [at('hand-team').value.trim(), at('hand-profile').value.trim()];
   const file = at('hand-file').files[0];
   if (!areNames([team, profile], 'a team or a profile')) return;
@@ -50,17 +60,18 @@ async function send() {
     `${file.name} has ${file.size} bytes, so it wasn’t sent: a document has at most 262,144.`, 'too-long', faultSaid('too-long')[1]);
   const answer = await sent('hand-send', 'submit', { team, profile }, file, () => alone(send));
   if (!answer) return;
-  const after = at('hand-after');
-  if (!answer.done || answer.json?.answer !== 'done') {
+  const after = (...parts) => { if (here()) at('hand-after').replaceChildren(...parts); };
+  if (!answer.done) {
     const [sentence, rule, way] = refusal('submit', answer, { team, profile });
-    say('refused', `${file.name} was not taken. ${sentence}`, rule, way);
-    return after.replaceChildren();
+    // whether it was taken only the office says
+    const untaken = answer.json && answer.wrong === null;
+    say('refused', `${file.name}${untaken ? ' was not taken.' : ':'} ${sentence}`, rule, way);
+    return after();
   }
   const { revision, digest } = answer.json;
-  const own = at('hand-digest')?.textContent;
   say('done', `${file.name} is revision ${revision} of ${team}/${profile}. It is open, and its canonical text has the digest ${digest}.`, '',
-    own && own !== digest ? 'That isn’t the digest that the page worked out: look at what stands there.' : '');
-  after.replaceChildren(el('p', {}, link(`profile/${team}/${profile}/${revision}`, `Look at revision ${revision}`, { id: 'hand-look' })),
+    digests.has(file) && digests.get(file) !== digest ? 'That isn’t the digest that the page worked out: look at what stands there.' : '');
+  after(el('p', {}, link(`profile/${team}/${profile}/${revision}`, `Look at revision ${revision}`, { id: 'hand-look' })),
     ...textLink('hand-link', { team, profile, revision }, digest,
       'The office keeps no message with a document. Write what it is for where the team talks, with this link: it opens the sheet.'));
 }

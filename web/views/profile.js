@@ -9,7 +9,7 @@ import { against, holds, readSheet, sheetOf, still, voteSaid } from '../sheet.js
 import { decideCard } from './decide.js';
 import { baselineOf, differing, documentOf, opened } from './differing.js';
 import { findingsList } from './findings.js';
-import { nameSaid, revisionsCard } from './revisions.js';
+import { nameSaid, revisionsCard, standing } from './revisions.js';
 import { heldBadge, refused } from './teams.js';
 
 /** How many revisions the office lists at once. */
@@ -19,23 +19,21 @@ const LISTED = 100;
 /** @typedef {import('../sheet.js').Sheet} Sheet */
 /**
  * @typedef {{ digest: string, named: string, linked: string, same: boolean, own: boolean, left: string[], beyond: string[], unseen: string,
- *   text: string, shown: any }} Reading how the sheet, the text, the link and what is on the screen go together
+ *   text: string, shown: any }} Reading how the sheet, the text, the link and what is on the screen go together; `unseen` why the page
+ *   couldn't look at all of it
  */
 
 /** @param {import('../page.js').Place} now */
 export async function profileView(now) {
   const about = { team: now.team, profile: now.profile, revision: now.revision };
   const title = el('h1', { tabindex: '-1', 'data-first': true }, `${about.team}/${about.profile}`);
-  const list = await read('list', { team: about.team });
-  if (!list.done || !list.json?.profiles) return [title, refused('list', list, about)];
-  const own = list.json.profiles.find((one) => one.profile === about.profile);
-  if (!own) return [title, el('p', { class: 'empty' }, `The team ${about.team} has no profile ${about.profile}.`)];
+  const { own, answer } = await standing(about, read);
+  if (!own) return [title, refused('revisions', answer, about)];
   if (!about.revision) about.revision = own.revisions;
   // the newest revisions, or those around one that isn't among them
-  const before = own.revisions - about.revision < LISTED ? undefined : about.revision + LISTED / 2;
-  const [shown, told, revisions] = await Promise.all(
-    [read('show', about), read('sheet', about), read('revisions', { ...about, before })]);
-  if (!shown.done || typeof shown.json?.document !== 'string') return [title, refused('show', shown, about)];
+  const around = own.revisions - about.revision < LISTED ? answer : read('revisions', { ...about, before: about.revision + LISTED / 2 });
+  const [shown, told, revisions] = await Promise.all([read('show', about), read('sheet', about), around]);
+  if (!shown.done) return [title, refused('show', shown, about)];
   const sheet = told.done ? readSheet(told.text) : null;
   if (!sheet) return [title, told.done ? el('p', { class: 'notice refused inline' }, 'What came as its sheet is no review sheet.')
     : refused('sheet', told, about)];
@@ -47,16 +45,17 @@ export async function profileView(now) {
   const reading = { ...await verified(about, shown.json, sheet, profile, base, pre, text), linked: now.digest };
   const state = shown.json.state;
   // what a false sheet says of its need isn't shown as what is needed
-  const needs = isWrong(reading) ? { ready: false, text: 'Not known: the sheet isn’t the one of this document.' } : still(sheet);
+  const needs = isWrong(reading) ? { ready: false, text: 'Not known: the sheet isn’t the one of this document.' }
+    : reading.unseen ? { ready: false, text: `Not known. ${reading.unseen}.` } : still(sheet);
   return [
     el('p', { class: 'crumbs' }, link(`profiles/${about.team}`, `Team ${about.team}`)),
     el('div', { class: 'title' }, title, badge(state), heldBadge(about)),
     el('div', { class: 'deciding' },
       el('div', { class: 'read' },
-        summaryCard(about, own, sheet, reading, needs, revisions.json?.revisions?.find((one) => one.revision === about.revision)),
+        summaryCard(about, own, sheet, reading, needs, revisions.done && revisions.json.revisions.find((one) => one.revision === about.revision)),
         el('div', { class: 'beside' },
-          el('div', {}, findingsCard(sheet, reading, profile, base.profile), keepsCard(sheet)),
-          el('div', {}, await differsCard(about, own, profile), votesCard(sheet, needs, isWrong(reading)))),
+          el('div', {}, findingsCard(sheet, reading, profile, base), keepsCard(sheet)),
+          el('div', {}, await differsCard(about, own, profile), votesCard(sheet, needs, isWrong(reading) || reading.unseen !== ''))),
         grantsCard(sheet), documentCard(text, wrong, pre), revisionsCard(about, revisions),
         el('details', { class: 'card' }, el('summary', {}, 'The sheet as the office wrote it'),
           el('pre', { id: 'sheet', tabindex: '0', role: 'region', 'aria-label': 'The sheet as the office wrote it' }, sheet.text))),
@@ -77,10 +76,10 @@ async function verified(about, json, sheet, profile, base, pre, text) {
   const named = sheet.value('digest');
   const same = squeezed(pre.textContent) === text && digest === named && digest === json.digest && own;
   const said = { digest, named, same, own, text, shown: pre, left: [], beyond: [], unseen: '' };
-  if (!profile) return { ...said, unseen: 'The document can’t be read, so the page can’t look whether the sheet is the one of it.' };
-  if (!base.profile) return { ...said, unseen: 'The page couldn’t read the baseline, so it can’t look whether findings are left out.' };
+  if (!profile) return { ...said, unseen: 'The page can’t read the document' };
   const listed = memory.known.listed;
   const found = against(sheet.text, sheetOf({ ...about, digest }, sheet, profile, base.profile, listed));
+  if (!base.profile) return { ...said, ...found, unseen: 'The page can’t read the baseline that the sheet names' };
   // what a sheet of this office said to be listed is listed on each other one, as long as the office stands
   const has = holds(profile);
   for (const one of sheet.value('listed').split(' ')) if (has.includes(one)) listed.add(one);
@@ -129,9 +128,9 @@ function revisionChoice(about, own) {
 }
 
 function baselineSaid(sheet, about) {
-  const [profile, number] = sheet.value('baseline').split(' ');
-  return number === undefined ? 'the closed profile: no adopted revision stands'
-    : ['the team’s baseline, ', link(`profile/${about.team}/${profile}/${number}`, `${profile} ${number}`)];
+  if (!sheet.baseline) return 'the closed profile: no adopted revision stands';
+  const { profile, revision } = sheet.baseline;
+  return ['the team’s baseline, ', link(`profile/${about.team}/${profile}/${revision}`, `${profile} ${revision}`)];
 }
 
 const words = (text) => chips(text === 'none' || text === '' ? [] : text.split(' '));
@@ -142,10 +141,11 @@ function findingsCard(sheet, reading, profile, base) {
   return el('section', { class: `card findings ${calm ? 'calm' : ''}`, 'aria-labelledby': 'findings-title' },
     el('h2', { id: 'findings-title' }, 'New against the baseline'),
     wrong && wrongSaid(reading),
-    reading.unseen && notice('plain', [reading.unseen], { id: 'unseen' }),
+    reading.unseen && notice('refused', [`${reading.unseen}, so it can’t look whether findings are left out.`], { id: 'unseen' }),
+    base.instead,
     el('p', { class: 'lead', id: 'findings-count' }, sheet.findings.length ? `${some(sheet.findings.length, 'finding')}.`
       : calm ? 'Nothing: no capability and no call is permitted more.' : 'The sheet has no finding.'),
-    findingsList(sheet.findings, profile, base),
+    findingsList(sheet.findings, profile, base.profile),
     sheet.value('listed') !== 'none' && el('p', {}, el('span', { class: 'tag' },
       'Listed by this office, so two approvals are needed whatever is new'), words(sheet.value('listed'))));
 }
@@ -186,13 +186,13 @@ function grantsCard(sheet) {
       el('tbody', {}, rows.map(([name, value]) => el('tr', {}, el('th', { scope: 'row' }, name), el('td', {}, words(value)))))));
 }
 
-function votesCard(sheet, needs, wrong) {
+function votesCard(sheet, needs, unsure) {
   return el('section', { class: 'card', 'aria-labelledby': 'votes-title' }, el('h2', { id: 'votes-title' }, 'Votes'),
     sheet.votes.length ? el('ul', { class: 'plain', id: 'votes' },
       sheet.votes.map((vote) => el('li', { class: vote.lapsed ? 'lapsed' : vote.vote },
         el('strong', {}, vote.name), vote.name === self() ? ' (you) ' : ' ', voteSaid(vote))))
       : el('p', { class: 'empty' }, 'Nobody has voted.'),
-    el('p', {}, !wrong && `It needs ${sheet.need === 2 ? 'two approvals, at least one with security' : 'one approval'}. `,
+    el('p', {}, !unsure && `It needs ${sheet.need === 2 ? 'two approvals, at least one with security' : 'one approval'}. `,
       el('span', { class: needs.ready ? 'ready' : '' }, needs.text)));
 }
 

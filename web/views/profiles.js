@@ -18,7 +18,7 @@ export async function profilesView() {
     const answer = await read('list', { team });
     const list = answer.json?.profiles;
     parts.push(el('section', { 'aria-labelledby': `team-${team}` }, el('h2', { id: `team-${team}` }, `Team ${team}`),
-      !answer.done || !list ? refused('list', answer, { team })
+      !answer.done ? refused('list', answer, { team })
         : !list.length ? noProfile(team) : el('ul', { class: 'cards' }, list.map((one) => item(team, one)))));
   }
   return parts;

@@ -4,6 +4,7 @@ import { eachOf } from '../api.js';
 import { at, badge, button, el, field, link, some } from '../elements.js';
 import { ask, memory, read, self, stays } from '../page.js';
 import { readSheet, still } from '../sheet.js';
+import { pages } from './revisions.js';
 import { heldBadge, noProfile, refused, teamsForm } from './teams.js';
 
 /** How many sheets are asked for at a time: as many connections as a browser makes to one name. */
@@ -26,20 +27,19 @@ function rowOf(team, one, voted) {
  * What the user handed in of a profile. A team's profiles are handed in by users of that team alone, so of another team nothing is asked.
  * @returns {Promise<Handed>}
  */
-async function handedIn({ team, profile }) {
+async function handedIn({ team, profile, revision }) {
   const found = { mine: false, author: false };
   const { me } = memory.known;
   const votes = memory.known.may('reviewer');
   if (team !== me?.team || !(votes || memory.known.may('author'))) return found;
-  for (let before = 0; ;) {
-    const { done, json } = await ask('revisions', before ? { team, profile, before } : { team, profile });
-    if (!done || !json?.revisions?.length) return found;
-    const own = json.revisions.map((one) => one.by === me.user);
-    found.mine ||= !before && own[0];
-    found.author ||= own.includes(true);
-    if (found.author || !votes || !json.more) return found;
-    before = json.revisions.at(-1).revision;
+  for await (const { done, json } of pages({ team, profile }, ask)) {
+    if (!done) break;
+    const own = json.revisions.filter((one) => one.by === me.user);
+    found.mine ||= own.some((one) => one.revision === revision);
+    found.author ||= own.length > 0;
+    if (found.author || !votes) break;
   }
+  return found;
 }
 
 // What a row says of the user's vote: nothing where that user may not vote.
@@ -94,12 +94,12 @@ export async function queueView() {
   for (const team of memory.teams) {
     const answer = await read('list', { team });
     const list = answer.json?.profiles;
-    const open = answer.done && list ? list.filter((one) => one.state === 'open') : [];
+    const open = answer.done ? list.filter((one) => one.state === 'open') : [];
     const voted = el('ul', { class: 'cards voted' });
     const own = open.map((one) => rowOf(team, one, voted));
     rows.push(...own);
     sections.push(el('section', { 'aria-labelledby': `team-${team}` }, el('h2', { id: `team-${team}` }, `Team ${team}`),
-      !answer.done || !list ? refused('list', answer, { team })
+      !answer.done ? refused('list', answer, { team })
         : !list.length ? noProfile(team)
           : !open.length ? el('p', { class: 'empty' }, `Nothing is open. The team has ${some(list.length, 'profile')}.`)
             : [el('ul', { class: 'cards waits' }, own.map((one) => one.item)), voted]));
