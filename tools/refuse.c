@@ -3,8 +3,9 @@
 // Has a program meet each STEPth refusal of memory from number FIRST on, in one run of it. At each such allocation the process forks: the
 // child is refused it, is granted each later one, and goes on to its end. The parent waits, writes the number and how the child ended to
 // the descriptor TOLD, where CALLS is 1 with the calls that led there, and waits there for a byte, so that somebody may look at what the
-// child left. Then it sets the files of the folder back to what they were, and its place in each, and goes on as if nothing had been. A
-// file that a child removes only gets a dot before its name, so that it can be put back. tools/out-of-memory loads it.
+// child left. Then it sets the files of the folder back to what they were, its place in each and its locks, and goes on as if nothing had
+// been. A lock is let go where the child closes the file, though the parent has it open too. A file that a child removes only gets a dot
+// before its name, so that it can be put back. tools/out-of-memory loads it.
 //
 // The program is to have all its files in the folder where it runs, and one thread. It allocates by malloc and realloc alone. What the
 // loader takes before main isn't counted. The disk isn't waited for, the clock stands still, and a connection is a file: the Nth that is
@@ -16,11 +17,13 @@
 #include <limits.h>
 #include <link.h>
 #include <netinet/in.h>
+#include <stdarg.h>
 #include <stdint.h>
 #include <stdio.h>
 #include <stdlib.h>
 #include <string.h>
 #include <sys/stat.h>
+#include <sys/syscall.h>
 #include <sys/wait.h>
 #include <time.h>
 #include <unistd.h>
@@ -31,6 +34,8 @@ struct file { char name[NAME_MAX + 1]; ino_t inode; ssize_t size; char bytes[1 <
 extern void *__libc_malloc(size_t), *__libc_realloc(void *, size_t), __libc_free(void *);
 static long first, step, number;
 static int told, tells_calls, is_trying, is_child;
+// How the file of each descriptor is locked.
+static struct flock locks[DESCRIPTORS] = {[0 ... DESCRIPTORS - 1] = {.l_type = F_UNLCK}};
 static struct file kept[FILES], seen;
 
 __attribute__((constructor)) static void begin(void) {
@@ -155,8 +160,10 @@ static int try(void) {
     dprintf(told, "%ld %d%s\n", number, status, calls);
     require(read(told, &looked_at, 1) == 1, "nobody looked");
     set_all_back(files);
-    for (int file = 0; file < DESCRIPTORS; file++)
+    for (int file = 0; file < DESCRIPTORS; file++) {
         if (places[file] >= 0) lseek(file, places[file], SEEK_SET);
+        syscall(SYS_fcntl, file, F_OFD_SETLK, &locks[file]);
+    }
     return 0;
 }
 
@@ -175,6 +182,22 @@ void *realloc(void *old, size_t size) { return is_refused() ? NULL : __libc_real
 void free(void *held) { if (!is_child) __libc_free(held); }
 
 int unlink(const char *path) { return is_child ? rename(path, removed(path)) : unlinkat(AT_FDCWD, path, 0); }
+int fcntl(int file, int command, ...) {
+    va_list more;
+    va_start(more, command);
+    void *given = va_arg(more, void *);
+    va_end(more);
+    int status = syscall(SYS_fcntl, file, command, given);
+    if (command == F_OFD_SETLK && status == 0 && file < DESCRIPTORS) locks[file] = *(struct flock *)given;
+    return status;
+}
+int close(int file) {
+    if (file >= 0 && file < DESCRIPTORS && locks[file].l_type != F_UNLCK) {
+        locks[file].l_type = F_UNLCK;
+        syscall(SYS_fcntl, file, F_OFD_SETLK, &locks[file]);
+    }
+    return syscall(SYS_close, file);
+}
 int fsync(int file) { return 0; }
 int fdatasync(int file) { return 0; }
 int clock_gettime(clockid_t clock, struct timespec *now) { *now = (struct timespec){0}; return 0; }

@@ -4,6 +4,8 @@ from hashlib import sha256
 # the seal that stands before the first line, and how many bytes a line has at most
 NO_SEAL = "0" * 64
 LONGEST = 2_097_152
+# the mark of a database whose office went on without its journal
+PARTED = 2**32 - 1
 
 STRIKE = b'{"event":"strike"}'
 DONE = b'{"event":"done","of":'
