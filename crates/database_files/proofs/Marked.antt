@@ -23,9 +23,6 @@ module _ {D : Type 0} {g : Ghosts D} (was back set : FileStore D g) (mark : ℕ)
     | inr shut ↦ absurd (both_ways _ sets.sound (shut_is_broken back shut))
   ]
 
-  pub set_open : (view set).is_open ≡ (view back).is_open
-  set_open = ap (λ (v : View). v.is_open) sets.is
-
   -- it then sees the last commit with the mark
   pub set_trees : (view set).trees ≡ with_version (view was).committed mark
   set_trees = ap (λ (v : View). v.trees) sets.is ∙ ap (λ (db : Trees). with_version db mark) (undone.undone back_open).0

@@ -42,9 +42,6 @@ sue_approves = record {
   no_author = refl;
 }
 
-are_two : approvals approved web 1 ≡ rev ∷ sue ∷ []
-are_two = refl
-
 each : (name : List ℕ) → Contains (rev ∷ sue ∷ []) name → Approves approved web 1 text name
 each name is = at is.0 is.1 is.2
   where

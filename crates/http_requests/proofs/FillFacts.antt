@@ -1,5 +1,5 @@
 -- What filling a buffer comes to.
-use Rattle.std.proofs.Common.{◌≡◌, ◌∙◌, ◌+◌, ◌-◌, ◌<◌, ◌≤◌, ℕ, List, ◌++◌, length, take, drop, min, Option, sym, ap, subst, arith, inl, inr, length-append}
+use Rattle.std.proofs.Common.{◌≡◌, ◌∙◌, ◌+◌, ◌-◌, ◌≤◌, ℕ, List, ◌++◌, length, take, drop, min, Option, sym, ap, subst, arith, inl, inr, length-append}
 use Rattle.std.proofs.KnownBytes.{Consumes-trans}
 use Rattle.std.proofs.lemmas.Bool.{cases_lt}
 use Rattle.std.proofs.lemmas.List.{take-append-drop, take-append-le, take-take, take_all, drop-append-le, length-take-le, length-drop}
@@ -7,7 +7,7 @@ use Rattle.std.proofs.Math.Seq.{take-add}
 use Rattle.std.specs.Io.KnownBytes.{Consumes}
 use Rattle.streams.specs.Some.{some_count}
 use Rattle.streams.specs.declared.some.SomeRead.{SomeRead}
-use Rattle.http_requests.specs.Heard.{FillsPart, IsBody, IsFilled, ReadsBehind}
+use Rattle.http_requests.specs.Heard.{IsBody, IsFilled, ReadsBehind}
 
 -- so far this much of a buffer is filled
 pub record Filling (before now : Option (List ℕ)) (kept filled : ℕ) (old buffer : List ℕ) : Type 0 where
@@ -35,19 +35,6 @@ module _ (before now : Option (List ℕ)) (kept filled : ℕ) (old buffer : List
         bytes = subst (λ (bytes : List ℕ). Consumes before after bytes) (sym parts)
             (Consumes-trans before now after (drop kept (take filled buffer)) (take (some_count read) (drop filled new)) f.bytes r.bytes);
       }
-
-  pub filled_all : length buffer ≤ filled → IsFilled before now kept old buffer
-  filled_all all = record {
-    same_length = f.same_length;
-    same_front = f.same_front;
-    bytes = subst (λ (bytes : List ℕ). Consumes before now (drop kept bytes)) (take_all filled buffer all) f.bytes;
-  }
-
-  pub filled_part : filled < length buffer → FillsPart before now kept old
-  filled_part short =
-      let size : length (drop kept (take filled buffer)) ≡ length (take filled buffer) - kept = length-drop kept (take filled buffer) in
-      let front : length (take filled buffer) ≡ filled = length-take-le filled buffer f.high in
-      (drop kept (take filled buffer), f.bytes, omega (arith, size, front, f.low, short, f.same_length))
 
 -- ---- a body, of which a front part was read before
 

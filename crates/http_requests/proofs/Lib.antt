@@ -1,6 +1,5 @@
 pub mod TextFacts
 pub mod QueryFacts
-pub mod TargetFacts
 pub mod Named
 pub mod Walks
 pub mod ShapeFacts

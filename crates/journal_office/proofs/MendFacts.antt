@@ -1,5 +1,5 @@
 -- What becomes of a journal that a crash left, by what the tables show of it.
-use Rattle.std.proofs.Common.{◌≡◌, ◌≢◌, ◌∙◌, ◌⊎◌, ℕ, ◌≤◌, ◌<◌, List, [], ◌∷◌, ◌++◌, Bool, true, false, Option, Some, None, Result, Ok, Err, IfErr, IsTrue, length, refl, sym, ap, subst, arith, inl, inr, length-append}
+use Rattle.std.proofs.Common.{◌≡◌, ◌≢◌, ◌∙◌, ◌⊎◌, ℕ, ◌≤◌, List, [], ◌∷◌, ◌++◌, Bool, true, false, Option, Some, None, Result, Ok, Err, IfErr, IsTrue, length, refl, sym, ap, subst, arith, inl, inr, length-append}
 use Rattle.std.specs.Prelude.{OnOk, IsErrAnd}
 use Rattle.std.proofs.lemmas.Bool.{cases_Bool, false≢true}
 use Rattle.std.proofs.lemmas.List.{length-map}
@@ -329,30 +329,6 @@ module _ {X D : Type 0} (m : Meaning X) (g : Ghosts D) (mark : ℕ) where
         no_line = λ clean same. absurd cc;
         line = λ clean h lawful tells. (λ same. cc, λ same. told_some h (bodies_of g before) lawful tells (none_told none clean));
         other = λ clean h of is_clean same. absurd cc;
-        ours = λ clean h of is_clean. tt;
-        untouched = λ refusal. read.seen;
-        cause = λ h of clean. tt;
-        word = λ clean. tt;
-        crash = λ clean leaves left may. leaves left (read.crash left may);
-      }
-
-      -- it has fewer lines than the mark
-      pub too_few : found.lines < mark → Mends m g mark x x before after (Err OtherJournal)
-      too_few few = record {
-        leaves = left_itself m x;
-        stands = λ h stands clean. tt;
-        clean = read.clean;
-        opened = tt;
-        bodies = λ clean. tt;
-        journal = λ clean h of tells is_clean. tt;
-        ends = λ clean. tt;
-        marked = λ clean. tt;
-        unsealed = λ clean same. absurd cc;
-        changed = λ clean at same. absurd cc;
-        whole = λ clean. tt;
-        no_line = λ clean same. absurd cc;
-        line = λ clean h lawful tells. (λ same. cc, λ same. cc);
-        other = λ clean h of is_clean same. inl (let all = (through clean).lines in omega (arith, all, few));
         ours = λ clean h of is_clean. tt;
         untouched = λ refusal. read.seen;
         cause = λ h of clean. tt;

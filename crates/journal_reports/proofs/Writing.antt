@@ -35,9 +35,6 @@ use Rattle.journal_reports.specs.Writing.{AreWritten, HasLine, HasLookedUp, HasN
 use Rattle.journal_reports.proofs.Looks.{looked_on}
 use Rattle.no_memory.specs.Witness.{witness}
 
-abbrev Line : Type 0
-Line = ℕ × Event
-
 -- ---- definitions
 
 -- the last line, with one event more

@@ -36,14 +36,6 @@ both_there width at left right below first second = λ i. slice_cmp value_cmp (r
 pub left_there : (width at : ℕ) (left right : Row) → at < width → at < length left → length right ≤ at → rest_cmp width at left right ≡ Greater
 left_there width at left right below first second = λ i. slice_cmp value_cmp (rest_there width at left below first i) (rest_none width at right second i)
 
-pub none_there : (width at : ℕ) (left right : Row) → length left ≤ at → length right ≤ at → rest_cmp width at left right ≡ Equal
-none_there width at left right first second = λ i. slice_cmp value_cmp (rest_none width at left first i) (rest_none width at right second i)
-
-pub at_end : (width at : ℕ) (left right : Row) → width ≤ at → rest_cmp width at left right ≡ Equal
-at_end width at left right past =
-    let none : width - at ≡ 0 = omega (arith, past) in
-    λ i. slice_cmp value_cmp (take (none i) (drop at left)) (take (none i) (drop at right))
-
 other_then : (o p : Ordering) → (o ≡ Equal → ⊥) → o ≡ ordering_then o p
 other_then order.Less p other = refl
 other_then order.Equal p other = absurd (other refl)

@@ -134,11 +134,6 @@ stop_within (x ∷ xs) some = sooner (is_stop x) (mask_l (map is_stop xs)) _ _ s
 abbrev pub Masks : List ℕ → ℕ → ℕ → ℕ → Type 0
 Masks text at end found = (at ≤ end) × (end ≤ length text) × (end - at ≤ 16) × (found ≡ mask_l (map is_stop (take (end - at) (drop at text))))
 
-pub whole_block : (text : List ℕ) (at found : ℕ) → at + 16 ≤ length text → found ≡ mask_l (map is_stop (take 16 (drop at text))) → Masks text at (at + 16) found
-whole_block text at found within is =
-    let long : 16 ≡ at + 16 - at = omega arith in
-    (omega arith, within, omega arith, is ∙ ap (λ n. mask_l (map is_stop (take n (drop at text)))) long)
-
 module _ (text : List ℕ) (at end found : ℕ) (is : Masks text at end found) where
   abbrev block : List ℕ
   block = take (end - at) (drop at text)

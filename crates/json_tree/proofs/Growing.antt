@@ -1,11 +1,8 @@
 -- A text that grows among bytes, one write after another.
-use Rattle.std.proofs.Common.{◌≡◌, ℕ, ◌≤◌, List, ◌++◌, length, take, drop, ap, sym, ◌∙◌, arith, append_assoc, append-nil, length-append, length-take, length-take-le, take-take}
+use Rattle.std.proofs.Common.{◌≡◌, ℕ, ◌≤◌, List, ◌++◌, length, take, drop, ap, sym, ◌∙◌, arith, append-nil, length-append, length-take, length-take-le, take-take}
 use Rattle.std.proofs.lemmas.List.{drop_all, take_all, take-append-le}
 use Rattle.json.specs.Filled.{Placed}
 use Rattle.json_tree.specs.Grows.{Grows}
-
-pub grows_then : {a b c xs ys : List ℕ} {i j k : ℕ} → Grows a i xs b j → Grows b j ys c k → Grows a i (xs ++ ys) c k
-grows_then {a} {b} {c} {xs} {ys} {i} p q = record { text = q.text ∙ ap (λ l. l ++ ys) p.text ∙ append_assoc (take i a) xs ys; within = q.within }
 
 -- what is placed in room that was made
 pub grows_placed : {a b c xs : List ℕ} {i k : ℕ} → take i b ≡ take i a → i ≤ length b → Placed b c i xs k → Grows a i xs c k

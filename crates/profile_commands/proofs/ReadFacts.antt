@@ -18,7 +18,6 @@ use Rattle.profile_commands.specs.Executions.{IsExecuted}
 use Rattle.profile_commands.specs.Refusal.{IsChecked, IsOfNoJson, IsRefusalOf, RefusesAs}
 use Rattle.review_sheet.specs.Review.{findings_text}
 use Rattle.widening.specs.Findings.{findings_of}
-use Rattle.streams.specs.declared.up_to.Unread.TheVariants.{Failed, TooManyReads, NoMemory}
 
 -- bytes that are too many are no document
 too_long : (bytes : List ℕ) → most_bytes < length bytes → reading_of bytes ≡ Err TooLong
@@ -59,20 +58,6 @@ no_json_as bytes (file.Document NotJson) (inr reads) is = reads
 no_json_as bytes refusal (inr reads) is = absurd is
 
 -- ---- a file that was read so far
-
--- a fault of what was read of a file is one of all its bytes
-refused_whole : (all bytes : List ℕ) (refusal : FileFault) → reading_of all ≡ reading_of bytes → RefusesAs bytes refusal → RefusesAs all refusal
-refused_whole all bytes (file.NotJson place) same refused = same ∙ refused
-refused_whole all bytes (file.Document fault) same refused = same ∙ refused
-refused_whole all bytes (file.Unread (NoMemory _)) same refused = tt
-refused_whole all bytes (file.Unread Failed) same refused = absurd refused
-refused_whole all bytes (file.Unread TooManyReads) same refused = absurd refused
-
--- what is read as they do stands for all the bytes of a file, where they are known
-pub refused_of : (known : Option (List ℕ)) (bytes : List ℕ) (refusal : FileFault) → IfSome known (λ all. reading_of all ≡ reading_of bytes) → RefusesAs bytes refusal
-    → IfSome known (λ all. RefusesAs all refusal)
-refused_of None bytes refusal same refused = tt
-refused_of (Some all) bytes refusal same refused = refused_whole all bytes refusal same refused
 
 pub checked_of : (known : Option (List ℕ)) (bytes : List ℕ) (text : String Global) → IfSome known (λ all. reading_of all ≡ reading_of bytes) → IsChecked bytes (Ok text)
     → IfSome known (λ all. IsChecked all (Ok text))

@@ -1,5 +1,5 @@
 -- Steps of the readers of the objects of a filter.
-use Rattle.std.proofs.Common.{◌≡◌, ◌∙◌, ℕ, List, [], true, false, Option, Some, None, option_map, bytes_eq, Ok, Err, refl, sym, ap, subst}
+use Rattle.std.proofs.Common.{◌≡◌, ◌∙◌, ℕ, List, [], true, false, Option, Some, None, option_map, Ok, Err, refl, ap}
 use Rattle.std.specs.Prelude.{codes, is_some, unwrap_or}
 use Rattle.serde_json.specs.Data.{Data, Members}
 use Rattle.seccomp_doc.specs.declared.action.ActionWord.{ActionWord}
@@ -17,11 +17,6 @@ use Rattle.profile_text.specs.FilterShape.{arg_rows, entry_rows, seccomp_rows}
 use Rattle.profile_text.specs.Reading.{Gives, unless_faulty}
 use Rattle.profile_text.specs.Shape.{Row, below, member_of, members_faults, missing_faults, object_faults}
 use Rattle.profile_text.proofs.GivesFacts.{gives_first, ok_parts}
-use Rattle.profile_text.proofs.Picks.{same_name}
-
--- what holds at a name holds at the name that is equal to it
-pub at_name : (P : List ℕ → Type 0) (name key : List ℕ) → bytes_eq name key ≡ true → P key → P name
-at_name P name key is p = subst P (sym (same_name name key is)) p
 
 -- a member was read, so it is there
 pub is_there : {X : Type 0} (read : Data → X) (o : Option Data) (x : X) → option_map read o ≡ Some x → is_some o ≡ true

@@ -1,41 +1,22 @@
 -- Steps of the walk.
-use Rattle.std.proofs.Common.{◌≡◌, ◌∙◌, ℕ, ◌+◌, ◌<◌, ◌≤◌, List, [], ◌∷◌, ◌++◌, length, map, get_or, drop, Option, Some, None, option_map, Ok, Err, refl, ap}
+use Rattle.std.proofs.Common.{◌≡◌, ◌∙◌, ℕ, ◌+◌, ◌<◌, ◌≤◌, List, [], ◌∷◌, ◌++◌, length, map, get_or, drop, Some, option_map, Ok, Err, refl, ap}
 use Rattle.std.proofs.lemmas.List.{drop_more, drop_all, append-nil}
 use Rattle.std.specs.Borrow.{Bor}
 use Rattle.std.specs.Prelude.{decimal}
 use Rattle.std.specs.Int.RustNames.{bit_or}
-use Rattle.serde_json.specs.Data.{Data, string, Members}
+use Rattle.serde_json.specs.Data.{Data, Members}
 use Rattle.serde_json.specs.View.{items_of}
 use Rattle.json_tree.specs.View.{view, items_view, members_view}
 use Rattle.json_tree.specs.declared.tree.Tree.{Tree}
-use Rattle.cap_sets.specs.Capability.{number_named, single}
 use Rattle.profile_text.specs.declared.fault.DocFault.{DocFault}
-use Rattle.profile_text.specs.declared.fault.DocFault.TheVariants.{UnknownWord}
 use Rattle.profile_text.specs.declared.sets.CapSet.{CapSet}
 use Rattle.profile_text.specs.declared.sets.Sets.{Sets}
-use Rattle.profile_text.specs.Document.{is_cap_name, caps_row, caps_rows, set_faults}
+use Rattle.profile_text.specs.Document.{caps_row, caps_rows, set_faults}
 use Rattle.profile_text.specs.Reading.{Gives, unless_faulty}
 use Rattle.profile_text.specs.Sets.{cap_of, caps_of, set_named, set_of, sets_in, sets_with, with_set}
-use Rattle.profile_text.specs.Shape.{Shape, Row, below, word_faults, items_faults, row_faults, row_named, members_faults, object_faults}
+use Rattle.profile_text.specs.Shape.{Shape, Row, below, items_faults, row_faults, row_named, members_faults, object_faults}
 use Rattle.profile_text.proofs.GivesFacts.{gives_first, ok_parts}
 use Rattle.profile_text.proofs.Picks.{row_is}
-
--- a text that is the name of a capability
-cap_named_by : (path : List ℕ) (s : List ℕ) (o : Option ℕ) (caps : ℕ) → number_named s ≡ o → option_map single o ≡ Some caps → unless_faulty (word_faults is_cap_name path (string s)) (cap_of (string s)) ≡ Ok caps
-unfolding word_faults
-cap_named_by path s None caps is e = absurd (cc)
-cap_named_by path s (Some n) caps is e = let same : single n ≡ caps = cc in rw (is, same) refl
-
-pub cap_named : (path : List ℕ) (s : List ℕ) (caps : ℕ) → option_map single (number_named s) ≡ Some caps → unless_faulty (word_faults is_cap_name path (string s)) (cap_of (string s)) ≡ Ok caps
-cap_named path s caps e = cap_named_by path s (number_named s) caps refl e
-
-cap_unnamed_by : (path : List ℕ) (s : List ℕ) (o : Option ℕ) → number_named s ≡ o → option_map single o ≡ None → unless_faulty (word_faults is_cap_name path (string s)) (cap_of (string s)) ≡ Err (UnknownWord path)
-unfolding word_faults
-cap_unnamed_by path s None is e = rw is refl
-cap_unnamed_by path s (Some n) is e = absurd (cc)
-
-pub cap_unnamed : (path : List ℕ) (s : List ℕ) → option_map single (number_named s) ≡ None → unless_faulty (word_faults is_cap_name path (string s)) (cap_of (string s)) ≡ Err (UnknownWord path)
-cap_unnamed path s e = cap_unnamed_by path s (number_named s) refl e
 
 -- the item at a place, and then the others
 pub items_more : (shape : Shape) (path : List ℕ) (values : List Tree) (i : ℕ) (v : Tree) → i < length values → v ≡ get_or values i v

@@ -1,28 +1,22 @@
 -- Why a command failed, by what its parts say of it.
-use Rattle.std.proofs.Common.{◌≡◌, ◌≢◌, ℕ, List, Option, Result, Ok, Err, inl, inr, refl, subst, sym}
+use Rattle.std.proofs.Common.{◌≡◌, ◌≢◌, ℕ, List, Option, Result, Ok, Err, inl, inr, subst, sym}
 use Rattle.std.specs.Prelude.{IfErr, IfSome, IsErrAnd, String, string_bytes}
 use Rattle.std.specs.declared.alloc.Global.{Global}
 use Rattle.std.specs.declared.io.Error.{Error}
 use Rattle.command_line.specs.declared.command.ExecveWords.{ExecveWords}
 use Rattle.desk_http.specs.Lines.{IsCut}
-use Rattle.profile_text.specs.Reading.{reading_of}
 use Rattle.profile_text.specs.declared.profile.Profile.{Profile}
-use Rattle.profile_commands.specs.Comparing.{IsToldOfBase, IsToldOfNew}
+use Rattle.profile_commands.specs.Comparing.{IsToldOfNew}
 use Rattle.profile_commands.specs.Executions.{execution_of, IsExecuted}
-use Rattle.profile_commands.specs.Refusal.{IsChecked, RefusesAs}
+use Rattle.profile_commands.specs.Refusal.{IsChecked}
 use Rattle.profile_commands.specs.declared.compare.ComparedFault.{ComparedFault}
 use Rattle.profile_commands.specs.declared.execution.Execution.{Execution}
 use Rattle.profile_commands.specs.declared.execve.ExecveOutcome.{ExecveOutcome}
 use Rattle.profile_commands.specs.declared.fault.FileFault.{FileFault}
-use Rattle.profile_commands.specs.declared.fault.FileFault.TheVariants as file
-use Rattle.profile_commands.proofs.ReadFacts.{refused_of}
 use Rattle.streams.specs.declared.counted.Counted.{Counted}
-use Rattle.streams.specs.declared.up_to.Unread.TheVariants as unread
 use Rattle.reading_commands.specs.Documents.{file_of, outcome_text, IsDocumentIn, WereCompared}
-use Rattle.reading_commands.specs.DocumentFailures.{fault_of, file_fault_of, AreNoBytes, FailsToCheck, FailsToCompare, FailsToExecute}
-use Rattle.reading_commands.specs.DocumentFailures.{HasNoDocument, IsRefused, IsUncompared}
-use Rattle.reading_commands.specs.declared.document_bytes.NoBytes.{NoBytes}
-use Rattle.reading_commands.specs.declared.document_bytes.NoBytes.TheVariants.{Unopened, Unread}
+use Rattle.reading_commands.specs.DocumentFailures.{FailsToCheck, FailsToCompare, FailsToExecute}
+use Rattle.reading_commands.specs.DocumentFailures.{HasNoDocument, IsUncompared}
 use Rattle.command_host.specs.declared.fault.CommandFault.{CommandFault}
 use Rattle.command_host.specs.declared.fault.CommandFault.TheVariants as fault
 
@@ -32,32 +26,11 @@ pub failed_by : {A : Type 0} (Fails : CommandFault → Type 0) (result : Result 
 failed_by Fails (Ok a) why is fails = tt
 failed_by Fails (Err e) why is fails = subst Fails (sym is) fails
 
--- ---- a file
-
-module _ {F : Type 0} (Opened : Result F Error → Type 0) (Gives : F → F → Result ℕ Error → List ℕ → Type 0) (bytes_of : F → Option (List ℕ)) where
-  -- a file that was read has a fault of its bytes
-  pub refused_by : (it : F) (bytes : List ℕ) (why : FileFault) → Opened (Ok it) → IfSome (bytes_of it) (λ all. reading_of all ≡ reading_of bytes) → RefusesAs bytes why
-      → IsRefused Opened Gives bytes_of why
-  refused_by it bytes (file.Unread unread.Failed) opened same refused = absurd refused
-  refused_by it bytes (file.Unread unread.TooManyReads) opened same refused = absurd refused
-  refused_by it bytes (file.Unread (unread.NoMemory _)) opened same refused = (it, opened, tt)
-  refused_by it bytes (file.NotJson place) opened same refused = (it, opened, refused_of (bytes_of it) bytes (file.NotJson place) same refused)
-  refused_by it bytes (file.Document fault) opened same refused = (it, opened, refused_of (bytes_of it) bytes (file.Document fault) same refused)
-
-  -- a file that gave no bytes has no document
-  pub none_by : (none : NoBytes) → AreNoBytes Opened Gives none → HasNoDocument Opened Gives bytes_of (file_fault_of none)
-  none_by Unopened it = inl (refl, it)
-  none_by (Unread why) it = inr it
-
 -- ---- the commands
 
 module _ {F O : Type 0} (Opens : List ℕ → Result F Error → Type 0) (Gives : F → F → Result ℕ Error → List ℕ → Type 0) (bytes_of : F → Option (List ℕ)) (contents : O → Option (List ℕ))
     (output wrote : Counted O) where
   module _ (word : List ℕ) where
-    pub check_unread : wrote ≡ output → (none : NoBytes) → AreNoBytes (Opens (file_of word)) Gives none → FailsToCheck Opens Gives bytes_of contents output wrote word (fault_of none)
-    check_unread same Unopened it = (it, same)
-    check_unread same (Unread why) it = (it, same)
-
     pub check_cut : (why : CommandFault) (it : F) (text : String Global) (printed : List ℕ) → Opens (file_of word) (Ok it) → IfSome (bytes_of it) (λ bytes. IsChecked bytes (Ok text))
         → printed ≡ string_bytes text → (why ≡ fault.Write) × IsCut contents output wrote printed → FailsToCheck Opens Gives bytes_of contents output wrote word why
     check_cut why it text printed opened checked is cut =
@@ -65,11 +38,6 @@ module _ {F O : Type 0} (Opens : List ℕ → Result F Error → Type 0) (Gives 
         (it, text, opened, checked, subst (λ (t : List ℕ). IsCut contents output wrote t) is cut.1)
 
   module _ (words : ExecveWords) (execution : Execution) (described : execution_of words ≡ Ok execution) where
-    pub execve_unread : wrote ≡ output → (none : NoBytes) → AreNoBytes (Opens (file_of words.file.now)) Gives none
-        → FailsToExecute Opens Gives bytes_of contents output wrote words (fault_of none)
-    execve_unread same Unopened it = ((execution, described), (it, same))
-    execve_unread same (Unread why) it = ((execution, described), (it, same))
-
     pub execve_cut : (why : CommandFault) (it : F) (outcome : ExecveOutcome) (printed : List ℕ) → Opens (file_of words.file.now) (Ok it)
         → IfSome (bytes_of it) (λ bytes. IsExecuted execution bytes (Ok outcome)) → printed ≡ outcome_text outcome
         → (why ≡ fault.Write) × IsCut contents output wrote printed → FailsToExecute Opens Gives bytes_of contents output wrote words why
@@ -88,11 +56,6 @@ module _ {F O : Type 0} (Opens : List ℕ → Result F Error → Type 0) (Gives 
 
 module _ {F : Type 0} (Opens : List ℕ → Result F Error → Type 0) (Gives : F → F → Result ℕ Error → List ℕ → Type 0) (bytes_of : F → Option (List ℕ))
     (base_word new_word : List ℕ) where
-  pub base_refused : (why : FileFault) (told : ComparedFault) → IsToldOfBase why told → HasNoDocument (Opens (file_of base_word)) Gives bytes_of why
-      → IsUncompared Opens Gives bytes_of base_word new_word told
-  base_refused why told (inl it) none = subst (λ (t : ComparedFault). IsUncompared Opens Gives bytes_of base_word new_word t) (sym it.1) tt
-  base_refused why told (inr it) none = subst (λ (t : ComparedFault). IsUncompared Opens Gives bytes_of base_word new_word t) (sym it.1) (it.0, none)
-
   pub new_refused : (base : Profile) (why : FileFault) (told : ComparedFault) → IsDocumentIn (Opens (file_of base_word)) bytes_of base → IsToldOfNew why told
       → HasNoDocument (Opens (file_of new_word)) Gives bytes_of why → IsUncompared Opens Gives bytes_of base_word new_word told
   new_refused base why told read (inl it) none = subst (λ (t : ComparedFault). IsUncompared Opens Gives bytes_of base_word new_word t) (sym it.1) tt

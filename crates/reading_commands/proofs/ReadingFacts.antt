@@ -1,6 +1,6 @@
 -- How far a file is read.
-use Rattle.std.proofs.Common.{◌≡◌, ◌∙◌, ℕ, ◌+◌, ◌≤◌, ◌<◌, List, [], ◌++◌, length, take, Option, Result, add-one, refl, sym, ap, subst, append-nil, append_assoc}
-use Rattle.std.specs.Io.KnownBytes.{Consumes, IsAtEnd, Keeps}
+use Rattle.std.proofs.Common.{◌≡◌, ◌∙◌, ℕ, ◌+◌, List, [], ◌++◌, take, Option, Result, add-one, refl, sym, ap, subst, append-nil, append_assoc}
+use Rattle.std.specs.Io.KnownBytes.{Consumes, Keeps}
 use Rattle.std.proofs.KnownBytes.{Consumes-kept, Consumes-nil, Consumes-trans}
 use Rattle.std.specs.declared.io.Error.{Error}
 use Rattle.reading_commands.specs.Reading.{AreCalls, HasReadOn, IsCall}
@@ -34,11 +34,6 @@ read_more old mid new before between after some so_far read is = record {
 pub read_no_more : (old mid new : Option (List ℕ)) (before after : List ℕ) → IsReadSoFar old mid before after → Keeps mid new → IsReadSoFar old new before after
 read_no_more old mid new before after so_far kept =
     record { more = so_far.more; parts = so_far.parts; read = Consumes-kept old mid new so_far.more so_far.read kept }
-
--- it is all that is wanted, or all that there is
-pub read_whole : (old new : Option (List ℕ)) (before after : List ℕ) (most : ℕ) → IsReadSoFar old new before after → length after ≤ most → (length after < most → IsAtEnd new)
-    → HasReadOn old new before after most
-read_whole old new before after most so_far within ended = record { more = so_far.more; parts = so_far.parts; read = so_far.read; within = within; ended = ended }
 
 -- what was read from the beginning
 pub read_from_start : (old new : Option (List ℕ)) (before after : List ℕ) (most : ℕ) → before ≡ [] → HasReadOn old new before after most → Consumes old new after

@@ -10,7 +10,7 @@ use Rattle.widening.specs.declared.finding.Finding.TheVariants.{Cap, Arch, Flag,
 use Rattle.widening.specs.Findings.{findings_of, gained}
 use Rattle.review_sheet.specs.Sets.{caps_lines}
 use Rattle.review_sheet.specs.Filters.{seccomp_lines}
-use Rattle.review_sheet.specs.Review.{findings_lines, tally_lines, votes_lines}
+use Rattle.review_sheet.specs.Review.{findings_lines, votes_lines}
 use Rattle.review_sheet.specs.Sheet.{head_lines, need_lines, sheet_lines}
 use Rattle.review_sheet.specs.Examples.{detailed, detailed_lines}
 
@@ -55,10 +55,6 @@ need = rw found refl
 votes : votes_lines detailed.votes ≡ take 6 (drop 43 detailed_lines)
 unfolding votes_lines digits
 votes = refl
-
-tally : tally_lines detailed.votes ≡ take 2 (drop 49 detailed_lines)
-unfolding digits
-tally = refl
 
 pub detailed_sheet : sheet_lines detailed ≡ detailed_lines
 unfolding sheet_lines digits

@@ -22,10 +22,6 @@ pub left_with : {T E : Type 0} (P : E → Type 0) (result : Result T E) (error :
 left_with P (Ok done) error is holds = absurd is
 left_with P (Err e) error is holds = subst P (sym is) holds
 
-pub if_err : {T E : Type 0} (result : Result T E) (P Q : E → Type 0) → ((e : E) → P e → Q e) → IfErr result P → IfErr result Q
-if_err (Ok done) P Q follows holds = tt
-if_err (Err e) P Q follows holds = follows e holds
-
 -- ---- which faults say that there is no room
 
 full_by : (room memory : Bool) → is_full (if room then Full else if memory then NoMemory witness else Disk) ≡ room
@@ -142,11 +138,6 @@ module _ {D : Type 0} (g : Ghosts D) where
   named_later old mid new (Lost fault) counts names = failed_later old mid new (is_full fault) counts names
 
   -- ---- a `?` that leaves with it
-
-  pub left_by_write : {T : Type 0} (old new : D) (result : Result T LogFault) (error : Error) → IsErrAnd result (λ e. e ≡ fault_of_write (error_kind error))
-      → HasFailed g old new (is_no_room error) → IfErr result (IsOfCall g old new)
-  left_by_write old new result error is call =
-      left_with (IsOfCall g old new) result (fault_of_write (error_kind error)) is (of_write old new error _ call refl)
 
   pub left_met : {T : Type 0} (old mid new : D) (result : Result T LogFault) (fault : LogFault) → IsErrAnd result (λ e. e ≡ fault)
       → IsLater g old mid → IsMetBetween g mid new fault → IfErr result (IsMetBetween g old new)

@@ -1,19 +1,15 @@
 -- What is read of a line, piece by piece.
-use Rattle.std.proofs.Common.{◌≡◌, ◌≢◌, inl, inr, ℕ, min, ◌+◌, ◌-◌, ◌≤◌, ◌<◌, List, [], ◌∷◌, ◌++◌, length, take, drop, slice_index, refl, sym, ap, ◌∙◌, arith, append_assoc, length-append, length-drop, take-append-drop, IsTrue}
-use Rattle.std.proofs.lemmas.List.{drop-drop, drop_all, drop_at, drop_more, ext_get_or, get_or-take, get_or-drop, length-take-le}
-use Rattle.std.proofs.lemmas.Bool.{cases_lt}
-use Rattle.std.proofs.lemmas.List.Elements.{All-nil, All-append}
+use Rattle.std.proofs.Common.{◌≡◌, ◌≢◌, ℕ, ◌+◌, ◌-◌, ◌≤◌, ◌<◌, List, [], ◌∷◌, ◌++◌, length, take, drop, slice_index, refl, sym, ap, ◌∙◌, arith, append_assoc, length-append, length-drop, take-append-drop}
+use Rattle.std.proofs.lemmas.List.{drop-drop, drop_at, drop_more, ext_get_or, get_or-take, get_or-drop, length-take-le}
+use Rattle.std.proofs.lemmas.List.Elements.{All-append}
 use Rattle.sqlite_disk.specs.Disk.{Holds}
 use Rattle.sqlite_disk.specs.declared.Disk.{Ghosts}
 use Rattle.sealed_log.specs.Disks.{IsRead}
 use Rattle.streams.specs.Lines.{NoFeed}
-use Rattle.sealed_log.specs.Sealed.{longest, sealed_line}
-use Rattle.sealed_log.specs.Told.{IsSeal, IsUnended, body_in, told_behind}
+use Rattle.sealed_log.specs.Sealed.{sealed_line}
+use Rattle.sealed_log.specs.Told.{IsSeal, body_in, told_behind}
 use Rattle.sealed_log.specs.Lines.{IsPart, IsLine}
 use Rattle.sealed_log.proofs.ToldFacts.{IsBody-body_in, told_line, whole_line}
-
-pub IsRead-refl : {D : Type 0} (g : Ghosts D) (d : D) → IsTrue (g.is_usable d) → IsRead g d d
-IsRead-refl g d usable = record { seen = refl; usable = usable; counts = omega arith; tally = refl; clean = λ is. is; crash = λ left may. may }
 
 pub IsRead-trans : {D : Type 0} (g : Ghosts D) (a b c : D) → IsRead g a b → IsRead g b c → IsRead g a c
 IsRead-trans g a b c first then_ = record {
@@ -35,12 +31,6 @@ held file bytes at holds =
     get_or-take n (drop at file) i 0 below ∙ get_or-drop at file i 0 ∙ holds.each i below in
     sym (take-append-drop n (drop at file)) ∙ ap (λ (l : List ℕ). l ++ drop n (drop at file)) front
     ∙ ap (λ (l : List ℕ). bytes ++ l) (drop-drop n at file)
-
-pub part_none : (bytes : List ℕ) (at : ℕ) → IsPart bytes at []
-part_none bytes at = record {
-  is = let same : at ≡ at + 0 = omega arith in ap (λ n. drop n bytes) same;
-  one = All-nil (λ b. b ≢ 10);
-}
 
 -- behind a part of a line, what the file has there
 behind : (bytes line piece : List ℕ) (at : ℕ) → IsPart bytes at line → Holds bytes (at + length line) piece
@@ -79,22 +69,6 @@ part_whole bytes line piece at n part holds low body feed =
     record {
       is = there ∙ ap (λ (l : List ℕ). whole ++ 10 ∷ l) (sym rest);
       one = All-append (λ b. b ≢ 10) line front part.one body;
-    }
-
--- no line feed was found among as many bytes as were looked at
-pub part_ended : (bytes line : List ℕ) (at len most : ℕ) → IsPart bytes at line → len ≡ length bytes → at ≤ len
-    → most ≡ min (len - at) longest → most ≤ length line → IsUnended (drop at bytes)
-part_ended bytes line at len most part is within few ended =
-    let after = drop (at + length line) bytes in
-    record {
-      front = line;
-      rest = after;
-      is = part.is;
-      none = part.one;
-      ends = elim (cases_lt (length line) longest) [
-        | inr long ↦ inr long
-        | inl short ↦ inl (drop_all (at + length line) bytes (omega (arith, is, within, few, ended, short)))
-      ];
     }
 
 -- what a line tells

@@ -2,8 +2,8 @@
 use Rattle.std.proofs.Common.{◌≡◌, ℕ, ◌+◌, List, [], ◌∷◌, ◌++◌, All, length, refl, sym, ap, ◌∙◌, arith, length-append, ◌<◌, ◌-◌, ◌^◌, min}
 use Rattle.std.proofs.lemmas.List.{append-nil, length-take-le}
 use Rattle.std.proofs.lemmas.List.Elements.{All-append, All-cons, All-nil, All-push}
-use Rattle.sealed_log.specs.Sealed.{IsBody, last_seal, longest, no_seal, seal_on, sealed_line, sealed_lines, sealed_text, sealed_with, seal_of, wrapped}
-use Rattle.sealed_log.specs.Told.{HasTail, HasMore, told}
+use Rattle.sealed_log.specs.Sealed.{IsBody, last_seal, no_seal, seal_on, sealed_line, sealed_lines, sealed_text, sealed_with, seal_of, wrapped}
+use Rattle.sealed_log.specs.Told.{HasTail, told}
 use Rattle.sealed_log.specs.Whole.{IsWhole}
 use Rattle.sealed_log.specs.Log.{AreLines}
 use Rattle.sealed_log.specs.Reading.{IsThrough}
@@ -27,19 +27,6 @@ all_told file = (told_begins no_seal file).are
 -- what was found is as long as it says
 pub length-through : (file : List ℕ) (found : Through) → IsThrough file found → found.at ≡ length (sealed_text (told file))
 length-through file found is = sym (ap length is.text ∙ length-take-le found.at file is.within)
-
--- whether more than a line stands behind it
-pub more_behind : (file : List ℕ) (found : Through) → IsThrough file found → found.at + longest < found.len → HasMore file
-more_behind file found is more =
-    let long = length-through file found is in
-    let whole = is.len in
-    omega (arith, long, whole, more)
-
-pub no_more : (file : List ℕ) (found : Through) → IsThrough file found → (found.at + longest < found.len → ⊥) → HasMore file → ⊥
-no_more file found is none more =
-    let long = length-through file found is in
-    let whole = is.len in
-    none (omega (arith, long, whole, more))
 
 -- ---- one body more, and such that go before it
 

@@ -79,16 +79,6 @@ module _ (held : Held) (before now : Option (List ℕ)) (lines : List (List ℕ)
       Consumes-whole before now (handed.whole ++ handed.rest) (λ input. lines_of input ≡ lines ++ first_line handed.rest ∷ []) handed.read end
       (lines_read ∙ ap (λ ls. lines ++ ls) last)
 
-  -- those that were handed out are the first
-  pub front_handed : IfSome before (λ input. (more : List (List ℕ)) × (lines_of input ≡ lines ++ more))
-  front_handed = front_in before now handed.read
-    where
-      front_in : (b n : Option (List ℕ)) → Consumes b n (handed.whole ++ handed.rest)
-          → IfSome b (λ input. (more : List (List ℕ)) × (lines_of input ≡ lines ++ more))
-      front_in None n read = tt
-      front_in (Some input) None read = absurd read
-      front_in (Some input) (Some unread) read = (lines_of (handed.rest ++ unread), ap lines_of read ∙ lines_with unread)
-
   -- a whole line that is held is the next line
   pub next_held : HasLine held.bytes → IfSome before (λ input. (more : List (List ℕ)) × (lines_of input ≡ lines ++ first_line handed.rest ∷ more))
   next_held has = next_in before now handed.read

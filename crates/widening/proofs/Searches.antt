@@ -62,10 +62,6 @@ module _ {X : Type 0} where
   list_any-flat_map p f [] = refl
   list_any-flat_map p f (y ∷ ys) = list_any-append p (f y) (flat_map f ys) ∙ ap (λ b. list_any p (f y) || b) (list_any-flat_map p f ys)
 
-  pub list_any-map : {Y : Type 0} (p : X → Bool) (f : Y → X) (ys : List Y) → list_any p (map f ys) ≡ list_any (λ y. p (f y)) ys
-  list_any-map p f [] = refl
-  list_any-map p f (y ∷ ys) = ap (λ b. p (f y) || b) (list_any-map p f ys)
-
 -- a mapped filter keeps nothing
 pub is_empty_map : {X Y : Type 0} (f : X → Y) (p : X → Bool) (xs : List X) → map f (filter p xs) ≡ [] → list_any p xs ≡ false
 is_empty_map f p [] none = refl

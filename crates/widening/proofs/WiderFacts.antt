@@ -1,17 +1,13 @@
 -- Names that are looked at once.
-use Rattle.std.proofs.Common.{◌≡◌, ◌∙◌, ap, refl, sym, ℕ, ◌+◌, ◌<◌, List, [], ◌∷◌, ◌++◌, Bool, true, false, not, ◌&&◌, cond, map, length, take, get_or, bytes_eq, inl, inr}
-use Rattle.std.specs.Prelude.{filter}
+use Rattle.std.proofs.Common.{◌≡◌, ◌∙◌, ap, refl, sym, ℕ, ◌+◌, ◌<◌, List, [], ◌∷◌, ◌++◌, Bool, true, false, not, ◌&&◌, length, take, get_or, bytes_eq, inl, inr}
 use Rattle.std.specs.List.{list_any}
 use Rattle.std.proofs.lemmas.Bool.{and_from, and_parts, cases_Bool, both_ways, false_from_ne_true, not-false, or_from}
-use Rattle.std.proofs.lemmas.List.{map-append, take_more}
+use Rattle.std.proofs.lemmas.List.{take_more}
 use Rattle.std.proofs.lemmas.List.Concat.{flat_map-append}
-use Rattle.std.proofs.lemmas.List.Elements.{filter-append}
 use Rattle.std.proofs.lemmas.List.Folds.{list_any-append, list_any_at, list_any_more}
-use Rattle.seccomp_doc.specs.Filter.{EntryValue, FilterValue}
+use Rattle.seccomp_doc.specs.Filter.{EntryValue}
 use Rattle.seccomp_doc.specs.Meaning.{has_name}
-use Rattle.widening.specs.declared.finding.Finding.TheVariants.{Call}
-use Rattle.widening.specs.Calls.{entry_names, is_permitted_more}
-use Rattle.widening.specs.Findings.{call_finding}
+use Rattle.widening.specs.Calls.{entry_names}
 use Rattle.widening.specs.Texts.{lists}
 use Rattle.widening.proofs.Searches.{and_true, list_any-flat_map, list_any-weaker}
 use Rattle.widening.proofs.TextFacts.{passes_where_listed}
@@ -62,18 +58,3 @@ call_none p es earlier i e names told within is same none tells denied seen =
     ∙ list_any-append p (entry_names (take i es)) (entry_names (e ∷ []))
     ∙ or_from (list_any p (entry_names (take i es))) (list_any p (entry_names (e ∷ []))) none
     (list_any-append p e.names [] ∙ or_from (list_any p e.names) false (ap (list_any p) (sym same) ∙ none_here) refl)
-
--- ---- the findings of the names, one more
-
-called : (base new : FilterValue) (name : List ℕ) → map Call (filter (is_permitted_more base new) (name ∷ [])) ≡ call_finding base new name
-called base new name = elim (is_permitted_more base new name) as (λ b. map Call (cond b (name ∷ []) []) ≡ cond b (Call name ∷ []) []) [ true ↦ refl | false ↦ refl ]
-
-pub call_more : (base new : FilterValue) (names : List (List ℕ)) (at : ℕ) → at < length names →
-    map Call (filter (is_permitted_more base new) (take (at + 1) names))
-    ≡ map Call (filter (is_permitted_more base new) (take at names)) ++ call_finding base new (get_or names at [])
-call_more base new names at within =
-    let p = is_permitted_more base new in
-    ap (λ ns. map Call (filter p ns)) (take_more names at [] within)
-    ∙ ap (map Call) (filter-append p (take at names) (get_or names at [] ∷ []))
-    ∙ map-append Call (filter p (take at names)) (filter p (get_or names at [] ∷ []))
-    ∙ ap (λ found. map Call (filter p (take at names)) ++ found) (called base new (get_or names at []))
