@@ -1,6 +1,6 @@
 -- The evidence of an event: the review sheet of a revision as it was just before that.
 use Rattle.std.specs.Prelude.{◌≡◌, ◌++◌, ◌∷◌, [], ◌==◌, ℕ, List, Bool, true, false, is_none, All}
-use Rattle.std.specs.Prelude.{Option, Some, None, Result, Ok, Err, IfSome, codes, decimal}
+use Rattle.std.specs.Prelude.{Option, Some, None, IfSome, codes, decimal}
 use Rattle.std.specs.Prelude.{option_map, unwrap_or}
 use Rattle.sqlite.specs.Held.{Held}
 use Rattle.sqlite.specs.Store.{Ghosts}
@@ -107,8 +107,3 @@ module _ (bytes : Option (List ℕ)) (p : ProfileName) (n : ℕ) (line : Option 
     IsNoEvidence why.NoEvent = (is_none line ≡ false) × IsNever (meaning_over g) left
     IsNoEvidence why.NoRevision = IsWithoutRevision (meaning_over g) left
     IsNoEvidence (why.NoMemory _) = Unit {0}
-
-    -- the evidence, or why there is none
-    abbrev pub Proves : Result (List ℕ) NoEvidence → Type 0
-    Proves (Ok text) = IsEvidence (meaning_over g) left text
-    Proves (Err why) = IsNoEvidence why
