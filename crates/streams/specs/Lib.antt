@@ -1,7 +1,6 @@
 pub mod Counts
 pub mod Some
 pub mod Steps
-pub mod UpTo
 pub mod Filled
 pub mod Found
 pub mod Handed

@@ -19,5 +19,5 @@ pub use lines::{Lines, MAX_LINE, TooLong};
 pub use passed::{PassRead, PassWrite};
 pub use some::{SomeRead, read_some};
 pub use step::{ReadStep, read_step};
-pub use up_to::{Unread, read_up_to};
+pub use up_to::Unread;
 pub use whole::{WriteFailed, write_whole};

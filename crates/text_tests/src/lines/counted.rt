@@ -2,8 +2,7 @@ use std::alloc::{AllocError, Global};
 use std::io;
 use std::io::{ErrorKind, Read, Write};
 use streams::{
-    Counted, ReadStep, SomeRead, Unread, WriteFailed, is_interrupted, read_some, read_step,
-    read_up_to, write_whole,
+    Counted, ReadStep, SomeRead, WriteFailed, is_interrupted, read_some, read_step, write_whole,
 };
 
 // A reader that is interrupted, gives one byte, fails, and then is at its end.
@@ -272,32 +271,4 @@ fn a_long_buffer_is_read_into(rt: HostRuntime) -> Result<(), AllocError> {
     let seen = (step, reader.calls(), reader.faults());
     assert_eq!(rt; seen, (ReadStep::Bytes(3), 1, 0));
     Ok(())
-}
-
-#[test]
-fn all_is_read_up_to_a_number_of_bytes(rt: HostRuntime) -> Result<(), Unread> {
-    for (most, read, calls) in [
-        (0, b"".as_slice(), 0),
-        (3, b"pro".as_slice(), 1),
-        (6, b"profil".as_slice(), 2),
-        (7, b"profile".as_slice(), 3),
-        (8, b"profile".as_slice(), 4),
-    ] {
-        let mut reader = Counted::new(Slow { text: b"profile" });
-        let bytes = read_up_to(rt.alloc(), &mut reader, most, 4)?;
-        assert_eq!(rt; (bytes.as_slice(), reader.calls()), (read, calls));
-    }
-    Ok(())
-}
-
-#[test]
-fn bytes_are_not_read_where_a_call_fails_or_there_are_too_many(rt: HostRuntime) {
-    let mut slow = Counted::new(Slow { text: b"profile" });
-    let cut = read_up_to(rt.alloc(), &mut slow, 8, 3).err();
-    let mut halting = Counted::new(Halting { calls: 0 });
-    let failed = read_up_to(rt.alloc(), &mut halting, 8, 9).err();
-    assert_eq!(rt;
-        (cut, slow.calls(), failed, halting.calls(), halting.faults()),
-        (Some(Unread::TooManyReads), 3, Some(Unread::Failed), 3, 1)
-    );
 }
