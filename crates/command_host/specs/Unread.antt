@@ -3,7 +3,7 @@ use Rattle.std.specs.Prelude.{ℕ, List, Option, Some, None, if◌then◌else◌
 use Rattle.profile_commands.specs.declared.compare.ComparedFault.TheVariants as compared
 use Rattle.profile_commands.specs.declared.fault.FileFault.{FileFault}
 use Rattle.profile_commands.specs.declared.fault.FileFault.TheVariants as file
-use Rattle.streams.specs.declared.up_to.Unread.TheVariants as unread
+use Rattle.streams.specs.declared.unread.Unread.TheVariants as unread
 use Rattle.command_host.specs.ReadFaults.{tells_of_read}
 use Rattle.command_host.specs.declared.fault.CommandFault.{CommandFault}
 use Rattle.command_host.specs.declared.fault.CommandFault.TheVariants as fault

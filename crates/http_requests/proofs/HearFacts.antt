@@ -6,7 +6,7 @@ use Rattle.std.proofs.lemmas.List.{take-append-le, drop-append-le}
 use Rattle.std.specs.Io.KnownBytes.{Consumes}
 use Rattle.httparse.specs.Grammar.{RequestHead}
 use Rattle.httparse.specs.Spans.{span_bytes}
-use Rattle.streams.specs.declared.up_to.Unread.TheVariants.{Failed, TooManyReads, NoMemory}
+use Rattle.streams.specs.declared.unread.Unread.TheVariants.{Failed, TooManyReads, NoMemory}
 use Rattle.review_policy.specs.declared.ask.Request.{Request}
 use Rattle.json_requests.specs.Faults.{Lacks}
 use Rattle.json_requests.specs.Plain.{PlainAsk}

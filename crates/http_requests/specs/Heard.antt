@@ -6,7 +6,7 @@ use Rattle.streams.specs.Counts.{one_more}
 use Rattle.streams.specs.Filled.{EndsAfter}
 use Rattle.streams.specs.Some.{some_count}
 use Rattle.streams.specs.declared.some.SomeRead.{SomeRead}
-use Rattle.streams.specs.declared.up_to.Unread.TheVariants.{Failed, TooManyReads, NoMemory}
+use Rattle.streams.specs.declared.unread.Unread.TheVariants.{Failed, TooManyReads, NoMemory}
 use Rattle.review_policy.specs.declared.ask.Request.{Request}
 use Rattle.json_requests.specs.Plain.{plain}
 use Rattle.json_requests.specs.declared.fault.LineFault.{LineFault}

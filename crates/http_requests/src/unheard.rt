@@ -19,7 +19,7 @@ pub enum Unheard {
 
 impl From<AllocError> for Unheard {
     ghost use Rattle.std.specs.Prelude.{◌≡◌};
-    ghost use Rattle.streams.specs.declared.up_to.Unread.TheVariants.{NoMemory};
+    ghost use Rattle.streams.specs.declared.unread.Unread.TheVariants.{NoMemory};
     ghost use Rattle.http_requests.specs.declared.unheard.Unheard.TheVariants.{Unread};
     ghost use Rattle.no_memory.specs.Witness.{witness};
 

@@ -6,8 +6,8 @@ use Rattle.cap_sets.specs.declared.state.CapFault.TheVariants.{EffectiveOutside,
 use Rattle.profile_text.specs.FaultText.{fault_text_of}
 use Rattle.profile_text.specs.declared.fault.DocFault.{DocFault}
 use Rattle.profile_text.specs.declared.fault.DocFault.TheVariants as document
-use Rattle.streams.specs.declared.up_to.Unread.{Unread}
-use Rattle.streams.specs.declared.up_to.Unread.TheVariants as unread
+use Rattle.streams.specs.declared.unread.Unread.{Unread}
+use Rattle.streams.specs.declared.unread.Unread.TheVariants as unread
 use Rattle.profile_commands.specs.declared.compare.ComparedFault.{ComparedFault}
 use Rattle.profile_commands.specs.declared.compare.ComparedFault.TheVariants as compared
 use Rattle.profile_commands.specs.declared.fault.FileFault.{FileFault}

@@ -16,8 +16,8 @@ use Rattle.command_host.specs.Openings.{fault_of_opening, IsNoOffice, IsOpenedOf
 use Rattle.command_host.specs.declared.fault.CommandFault.{CommandFault}
 use Rattle.command_host.specs.declared.fault.CommandFault.TheVariants as fault
 use Rattle.profile_commands.specs.declared.fault.FileFault.TheVariants as file
-use Rattle.streams.specs.declared.up_to.Unread.{Unread}
-use Rattle.streams.specs.declared.up_to.Unread.TheVariants as unread
+use Rattle.streams.specs.declared.unread.Unread.{Unread}
+use Rattle.streams.specs.declared.unread.Unread.TheVariants as unread
 use Rattle.reading_commands.specs.Places.{IsMissing}
 use Rattle.reading_commands.specs.Reading.{HaveCalled}
 use Rattle.reading_commands.specs.declared.place.Place.{Place}

@@ -15,7 +15,7 @@ use Rattle.profile_commands.specs.declared.execve.ExecveOutcome.{ExecveOutcome}
 use Rattle.profile_commands.specs.declared.fault.FileFault.{FileFault}
 use Rattle.profile_commands.specs.declared.fault.FileFault.TheVariants as file
 use Rattle.streams.specs.declared.counted.Counted.{Counted}
-use Rattle.streams.specs.declared.up_to.Unread.TheVariants as unread
+use Rattle.streams.specs.declared.unread.Unread.TheVariants as unread
 use Rattle.command_host.specs.declared.fault.CommandFault.{CommandFault}
 use Rattle.command_host.specs.declared.fault.CommandFault.TheVariants as fault
 use Rattle.reading_commands.specs.Documents.{file_of, outcome_text, IsDocumentIn, WereCompared}

@@ -4,8 +4,8 @@ use Rattle.std.specs.Io.KnownBytes.{Consumes, IsAtEnd}
 use Rattle.std.specs.declared.io.Error.{Error}
 use Rattle.streams.specs.declared.step.ReadStep.{ReadStep}
 use Rattle.streams.specs.declared.step.ReadStep.TheVariants as step
-use Rattle.streams.specs.declared.up_to.Unread.{Unread}
-use Rattle.streams.specs.declared.up_to.Unread.TheVariants.{Failed, TooManyReads, NoMemory}
+use Rattle.streams.specs.declared.unread.Unread.{Unread}
+use Rattle.streams.specs.declared.unread.Unread.TheVariants.{Failed, TooManyReads, NoMemory}
 use Rattle.command_host.specs.FailedCalls.{CallFailed}
 use Rattle.reading_commands.specs.declared.reading.TheConstants.{MOST_READS}
 

@@ -10,7 +10,7 @@ pub mod passed;
 mod room;
 pub mod some;
 pub mod step;
-pub mod up_to;
+pub mod unread;
 pub mod whole;
 
 pub use counted::{Counted, is_interrupted};
@@ -19,5 +19,5 @@ pub use lines::{Lines, MAX_LINE, TooLong};
 pub use passed::{PassRead, PassWrite};
 pub use some::{SomeRead, read_some};
 pub use step::{ReadStep, read_step};
-pub use up_to::Unread;
+pub use unread::Unread;
 pub use whole::{WriteFailed, write_whole};

@@ -4,7 +4,7 @@ ghost use Rattle.std.specs.Prelude.{◌≡◌, ◌≢◌, ℕ, List, Some, Ok, E
 ghost use Rattle.std.specs.IoError.{error_kind};
 ghost use Rattle.std.specs.declared.io.Error.{Error};
 ghost use Rattle.std.specs.declared.io.ErrorKind.TheVariants.{Interrupted};
-ghost use Rattle.streams.specs.declared.up_to.Unread.TheVariants.{Failed, TooManyReads};
+ghost use Rattle.streams.specs.declared.unread.Unread.TheVariants.{Failed, TooManyReads};
 ghost use Rattle.profile_text.specs.Reading.{reading_of};
 ghost use Rattle.profile_text.specs.declared.fault.DocFault.{DocFault};
 ghost use Rattle.profile_text.specs.declared.profile.Profile.{Profile};

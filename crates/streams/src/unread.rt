@@ -20,7 +20,7 @@ pub enum Unread {
 
 impl From<AllocError> for Unread {
     ghost use Rattle.std.specs.Prelude.{◌≡◌};
-    ghost use Rattle.streams.specs.declared.up_to.Unread.TheVariants.{NoMemory};
+    ghost use Rattle.streams.specs.declared.unread.Unread.TheVariants.{NoMemory};
     ghost use Rattle.no_memory.specs.Witness.{witness};
 
     ghost from_gives = { λ _ unread. unread ≡ NoMemory witness };
