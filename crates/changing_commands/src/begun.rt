@@ -1,55 +1,33 @@
 //! A journal is begun.
 
-ghost use Rattle.std.specs.Prelude.{◌≡◌, ◌<◌, ◌^◌, [], ◌∷◌, true, IfErr, IfOk, IsTrue};
+ghost use Rattle.std.specs.Prelude.{◌≡◌, [], ◌∷◌, true, IfErr, IfOk, IsTrue};
 ghost use Rattle.std.specs.Prelude.{OnOk, string_bytes};
 ghost use Rattle.sealed_log.specs.Faults.{IsLater};
 ghost use Rattle.sealed_log.specs.Log.{bodies_of};
 ghost use Rattle.sealed_log.specs.Sealed.{IsBody};
 ghost use Rattle.office_policy.specs.EventForms.{HasForms};
-ghost use Rattle.office_policy.specs.Formed.{IsDigest, IsWord};
 ghost use Rattle.changing_commands.specs.Foundings.{founding_event};
 ghost use Rattle.changing_commands.specs.Journals.{line_of, IsBegunBy, IsUnbegun};
 ghost use Rattle.no_memory.specs.Witness.{witness};
 
 use crate::founding::Founding;
-use cap_sets::Caps;
 use command_host::{CommandFault, Journals, fault_of};
 use journal::{Line, text};
-use office_policy::Event;
-use office_words::Word;
+use office_policy::{Event, founding_forms};
 use sealed_log::{LogFault, Nothing, SealedLog};
 use sqlite_disk::Disk;
 use std::alloc::{AllocError, Global};
-
-// A word is of its form. Nothing is done here but to read it.
-fn read_word(word: &Word)
-    ensures { IsWord word.now }
-{
-    let _text = word.as_str();
-}
-
-// A digest has 32 bytes.
-fn read_digest(digest: &[u8; 32])
-    ensures { IsDigest digest.now }
-{
-    let _bytes = digest.as_slice();
-}
-
-// A set of capabilities has the 41 at most.
-fn read_caps(caps: Caps)
-    ensures { caps < 2 ^ 41 }
-{
-    let _bits = caps.bits();
-}
 
 // A founding has the forms of an event.
 fn read_forms(founding: &Founding)
     ensures { HasForms (founding_event founding.now) }
 {
-    read_word(&founding.name);
-    read_word(&founding.team);
-    read_digest(&founding.digest);
-    read_caps(founding.listed);
+    founding_forms(
+        &founding.name,
+        &founding.team,
+        &founding.digest,
+        founding.listed,
+    );
 }
 
 // The text of a founding.
