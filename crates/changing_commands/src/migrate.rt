@@ -1,31 +1,15 @@
 //! `migrate`: an office of schema 1 in a file is made one of schema 2.
 
-ghost use Rattle.std.specs.Prelude.{◌≡◌, IfErr, OnOk};
+ghost use Rattle.std.specs.Prelude.{IfErr, OnOk};
 ghost use Rattle.sqlite.specs.Held.{state};
 ghost use Rattle.office_store.specs.Shown.{IsIdle};
-ghost use Rattle.command_host.specs.Openings.{IsClosed, IsEnded};
+ghost use Rattle.command_host.specs.Openings.{IsClosed};
 ghost use Rattle.changing_commands.specs.Migrations.{FailsToMigrateAt, HasMigrated};
 ghost use Rattle.changing_commands.specs.Migrations.{IsMigratedFrom, IsUnmigratedFrom};
 
-use command_host::{CommandFault, Databases, PARTED, database_at, unmarked_at};
+use command_host::{CommandFault, Databases, PARTED, close_database, database_at, unmarked_at};
 use office_founding::migrate;
 use sqlite::{Alter, Connection};
-
-// Closes what was migrated, with a mark where one is given.
-fn close_migrated<S: Alter + Drop, D: Databases<Database = Connection<S>>>(
-    databases: &D,
-    conn: Connection<S>,
-    mark: Option<u32>,
-) -> Result<(), CommandFault>
-    ensures closed { OnOk result (IsClosed D.closed conn mark) }
-    ensures ended { IsEnded D.Databases conn mark }
-    ensures fault { IfErr result (λ fault. fault ≡ CommandFault.Close) }
-{
-    match databases.close(conn, mark) {
-        Ok(_) => Ok(()),
-        Err(_) => Err(CommandFault::Close),
-    }
-}
 
 // Makes the office of schema 1 in a database that was opened one of schema 2, and closes it, with a
 // mark where one is given. Where that was refused, it is closed as it was marked.
@@ -40,7 +24,7 @@ fn migrate_with<S: Alter + Drop, D: Databases<Database = Connection<S>>>(
 {
     let mut conn = conn;
     match migrate(&mut conn) {
-        Ok(()) => close_migrated(databases, conn, mark),
+        Ok(()) => close_database(databases, conn, mark),
         Err(fault) => {
             // Why it wasn't migrated is reported, and not whether this closed.
             let _ = databases.close(conn, None);

@@ -41,8 +41,8 @@ pub use network::{Network, PassNet};
 pub use no_file::{NoFile, fault_of};
 pub use noted::{NoneFailed, Noted};
 pub use opening::{
-    close, database_at, fault_of_opening, first_fault, kept_at, marked_at, office_at, office_over,
-    open, unmarked_at,
+    close, close_database, database_at, fault_of_opening, first_fault, kept_at, marked_at,
+    office_at, office_over, open, unmarked_at,
 };
 pub use place::Stamp;
 pub use plain::{plain_lines, plain_text};

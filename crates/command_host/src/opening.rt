@@ -189,8 +189,28 @@ pub fn kept_at<S: Alter + Drop, D: Databases<Database = Connection<S>>>(
     Err(CommandFault::JournalParted)
 }
 
-/// Closes an office, so that all of it stands in one file, and has this mark; without one it keeps the
+/// Closes a database, so that all of it stands in one file, and has this mark; without one it keeps the
 /// one that it has.
+///
+/// # Errors
+///
+/// `Close`. What was committed then stands in the file and its log.
+pub fn close_database<S: Alter, D: Databases<Database = Connection<S>>>(
+    databases: &D,
+    conn: Connection<S>,
+    mark: Option<u32>,
+) -> Result<(), CommandFault>
+    ensures closed { OnOk result (IsClosed D.closed conn mark) }
+    ensures ended { IsEnded D.Databases conn mark }
+    ensures fault { IfErr result (λ fault. fault ≡ CommandFault.Close) }
+{
+    match databases.close(conn, mark) {
+        Ok(_) => Ok(()),
+        Err(_) => Err(CommandFault::Close),
+    }
+}
+
+/// Closes an office as [`close_database`] does.
 ///
 /// # Errors
 ///
@@ -204,10 +224,7 @@ pub fn close<S: Alter, D: Databases<Database = Connection<S>>>(
     ensures ended { IsEnded D.Databases office mark }
     ensures fault { IfErr result (λ fault. fault ≡ CommandFault.Close) }
 {
-    match databases.close(office.into_connection(), mark) {
-        Ok(_) => Ok(()),
-        Err(_) => Err(CommandFault::Close),
-    }
+    close_database(databases, office.into_connection(), mark)
 }
 
 /// What is reported of an office that was served and then closed: the first fault.
