@@ -3,13 +3,22 @@
 #![tactic(auto)]
 
 mod closed_pipe;
+mod examples;
+mod files;
+mod kept_apart;
+mod line;
+mod measured;
+mod meter;
+mod pace;
 
 ghost use Rattle.std.specs.Prelude.{◌≡◌, ◌≢◌};
 ghost use Rattle.std.specs.IoError.{error_kind};
 
 use closed_pipe::{Noting, Quiet};
+use files::MeasuredFiles;
+use kept_apart::KeptApart;
+use meter::Meter;
 use office_commands::run_here;
-use progress::{KeptApart, MeasuredFiles, Meter};
 use std::cell::Cell;
 use std::io::{ErrorKind, IsTerminal};
 use std::process::ExitCode;

@@ -1,6 +1,6 @@
 -- What a terminal is told of a file that is read.
 use Rattle.std.specs.Prelude.{ℕ, List, ◌++◌, ◌/◌, codes, decimal, max}
-use Rattle.progress.specs.declared.line.ReadSoFar.{ReadSoFar}
+use Rattle.office_program.specs.declared.line.ReadSoFar.{ReadSoFar}
 
 -- the number of whole megabytes, in digits
 abbrev pub megabytes : ℕ → List ℕ

@@ -12,13 +12,13 @@ use std::time::Clock;
 /// The same files, of which a [`Meter`] is told how much of each was read. What [`Files`] lets its
 /// implementors leave out, as modes and the making of links, they leave out.
 #[derive(Drop)]
-pub struct MeasuredFiles<'m, R: Clock + Eprint, F: Files> {
+pub(crate) struct MeasuredFiles<'m, R: Clock + Eprint, F: Files> {
     files: F,
     meter: &'m Meter<R>,
 }
 
 impl<'m, R: Clock + Eprint, F: Files> MeasuredFiles<'m, R, F> {
-    pub fn new(files: F, meter: &'m Meter<R>) -> MeasuredFiles<'m, R, F> {
+    pub(crate) fn new(files: F, meter: &'m Meter<R>) -> MeasuredFiles<'m, R, F> {
         MeasuredFiles { files, meter }
     }
 }

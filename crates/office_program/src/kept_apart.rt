@@ -13,14 +13,14 @@ use streams::PassWrite;
 /// A writer with the same bytes. Where it writes to a terminal, the line of a [`Meter`] is taken away
 /// before each write, so that the two don't stand in one line.
 #[derive(Drop)]
-pub struct KeptApart<'m, R: Clock + Eprint, W> {
+pub(crate) struct KeptApart<'m, R: Clock + Eprint, W> {
     inner: W,
     meter: &'m Meter<R>,
     on_terminal: bool,
 }
 
 impl<'m, R: Clock + Eprint, W> KeptApart<'m, R, W> {
-    pub fn new(inner: W, meter: &'m Meter<R>, on_terminal: bool) -> KeptApart<'m, R, W>
+    pub(crate) fn new(inner: W, meter: &'m Meter<R>, on_terminal: bool) -> KeptApart<'m, R, W>
         ensures { result.inner ≡ inner }
     {
         KeptApart {

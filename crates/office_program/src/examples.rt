@@ -1,7 +1,7 @@
 //! Worked examples of the definitions, each proved by computing.
 
 ghost use Rattle.std.specs.Prelude.{◌≡◌, codes};
-ghost use Rattle.progress.specs.Lines.{so_far_text};
+ghost use Rattle.office_program.specs.Lines.{so_far_text};
 
 /// Megabytes are whole ones; of a file that grew as it was read, what was read counts.
 pub fn examples_of_lines()

@@ -14,7 +14,7 @@ use streams::{PassRead, PassWrite};
 
 /// A file with the same bytes. After each read a [`Meter`] is told how much was read, and once the
 /// file is closed nothing stands of that.
-pub struct Measured<'m, R: Clock + Eprint, F: Drop> {
+pub(crate) struct Measured<'m, R: Clock + Eprint, F: Drop> {
     inner: F,
     meter: &'m Meter<R>,
     done: u64,
@@ -31,7 +31,7 @@ fn whole_of<F: OpenFile>(file: &F) -> Option<u64> {
 
 impl<'m, R: Clock + Eprint, F: OpenFile + Drop> Measured<'m, R, F> {
     /// The file. Of one that isn't regular, as a pipe, nothing is told.
-    pub fn new(inner: F, meter: &'m Meter<R>) -> Measured<'m, R, F>
+    pub(crate) fn new(inner: F, meter: &'m Meter<R>) -> Measured<'m, R, F>
         ensures { result.inner ≡ inner }
     {
         let whole = if meter.is_on() {

@@ -1,7 +1,7 @@
 //! When the line is written.
 
 ghost use Rattle.std.specs.Prelude.{◌↔◌, IsTrue};
-ghost use Rattle.progress.specs.Pace.{IsDue};
+ghost use Rattle.office_program.specs.Pace.{IsDue};
 
 use std::time::Duration;
 
@@ -13,7 +13,7 @@ const PAUSE: u128 = 500_000_000;
 
 /// Whether the line is to be written, so long after the work began and after it was last written, if
 /// it was: from two seconds on, and twice a second at most.
-pub fn is_due(worked: Duration, since_last: Option<Duration>) -> bool
+pub(crate) fn is_due(worked: Duration, since_last: Option<Duration>) -> bool
     ensures { IsTrue result ↔ IsDue worked since_last }
 {
     let paused = match since_last {

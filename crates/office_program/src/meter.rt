@@ -10,7 +10,7 @@ use std::time::{Clock, Instant};
 /// is a terminal, two seconds after this was made and later, and at most twice a second. That it
 /// can't be written is no fault.
 #[derive(Drop)]
-pub struct Meter<R: Clock + Eprint> {
+pub(crate) struct Meter<R: Clock + Eprint> {
     rt: R,
     began: Option<Instant>,
     last: Cell<Option<Instant>>,
@@ -20,7 +20,7 @@ pub struct Meter<R: Clock + Eprint> {
 impl<R: Clock + Eprint> Meter<R> {
     /// A meter of work that begins now; one that writes nothing where standard error is no terminal,
     /// or there is no clock.
-    pub fn new(rt: R, on_terminal: bool) -> Meter<R> {
+    pub(crate) fn new(rt: R, on_terminal: bool) -> Meter<R> {
         let began = if on_terminal {
             Instant::now(&rt).ok()
         } else {
@@ -35,12 +35,12 @@ impl<R: Clock + Eprint> Meter<R> {
     }
 
     /// Whether it may ever write.
-    pub fn is_on(&self) -> bool {
+    pub(crate) fn is_on(&self) -> bool {
         self.began.is_some()
     }
 
     /// Writes how far the work is, where that is due.
-    pub fn note(&self, so_far: ReadSoFar) {
+    pub(crate) fn note(&self, so_far: ReadSoFar) {
         let Some(began) = self.began else {
             return;
         };
@@ -59,7 +59,7 @@ impl<R: Clock + Eprint> Meter<R> {
     }
 
     /// Takes the line away, where one stands.
-    pub fn clear(&self) {
+    pub(crate) fn clear(&self) {
         if self.stands.get() {
             let _ = eprint!(&self.rt; "\r{:48}\r", "");
             self.stands.set(false);

@@ -1,6 +1,6 @@
 use Rattle.std.proofs.Common.{refl}
 use Rattle.std.specs.Fmt.{digits}
-use Rattle.progress.proofs.examples.examples_of_lines.Goals as goal
+use Rattle.office_program.proofs.examples.examples_of_lines.Goals as goal
 
 pub returns-clause-halfway : goal.returns-clause-halfway
 unfolding digits
