@@ -1,3 +1,5 @@
+mod FlawFacts
+mod FormFacts
 pub mod LeftFacts
 mod NoteFacts
 pub mod OutcomeFacts

@@ -1,7 +1,7 @@
 -- The notes of lines.
 use Rattle.std.proofs.Common.{◌≡◌, ◌∙◌, ℕ, List, [], ◌++◌, Option, Ok, Err, IfOk, codes, decimal, ap, append_assoc, subst, sym}
 use Rattle.json_requests.specs.declared.bad.BadLine.TheVariants.{NotARequest}
-use Rattle.line_flaws.specs.Flaws.{flaw_in}
+use Rattle.desk_lines.specs.Flaws.{flaw_in}
 use Rattle.streams.specs.declared.counted.Counted.{Counted}
 use Rattle.desk_lines.specs.Notes.{Found, named, note_line, HasNote, IsFoundIn, IsNote}
 use Rattle.desk_lines.specs.declared.outcome.LineOutcome.{LineOutcome}

@@ -1,7 +1,9 @@
 pub mod Faults
+pub mod Flaws
 pub mod Left
 pub mod Notes
 pub mod Outcomes
 pub mod Parts
+pub mod Reads
 pub mod Stands
 pub mod Written

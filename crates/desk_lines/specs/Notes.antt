@@ -6,8 +6,8 @@ use Rattle.streams.specs.Counts.{one_more}
 use Rattle.streams.specs.Steps.{AppendsPart}
 use Rattle.streams.specs.declared.counted.Counted.{Counted}
 use Rattle.json_requests.specs.declared.bad.BadLine.TheVariants.{TooLong, NotJson, NotARequest}
-use Rattle.line_flaws.specs.Flaws.{flaw_in, flaw_word}
-use Rattle.line_flaws.specs.declared.flaw.Flaw.{Flaw}
+use Rattle.desk_lines.specs.Flaws.{flaw_in, flaw_word}
+use Rattle.desk_lines.specs.declared.flaw.Flaw.{Flaw}
 use Rattle.no_memory.specs.declared.witness.NoMemory.{«NoMemory» as Want}
 use Rattle.desk_lines.specs.declared.outcome.LineOutcome.{LineOutcome}
 use Rattle.desk_lines.specs.declared.outcome.LineOutcome.TheVariants.{Bad, NoMemory, Answered}

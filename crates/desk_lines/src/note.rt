@@ -2,15 +2,16 @@
 
 ghost use Rattle.std.specs.Prelude.{◌≡◌, ◌+◌, ◌≤◌, ◌++◌, option_and_then, option_map};
 ghost use Rattle.arrayvec.specs.ArrayString.{array_string_len};
-ghost use Rattle.line_flaws.specs.Flaws.{flaw_word};
+ghost use Rattle.desk_lines.specs.Flaws.{flaw_word};
 ghost use Rattle.desk_lines.specs.Notes.{behind, named, note_line, word_of, HasNote, IsNote};
 
+use crate::flaw::Flaw;
+use crate::flawed::flaw_of_line;
 use crate::outcome::LineOutcome;
 use arrayvec::ArrayString;
 use itoa::Buffer;
 use json_requests::BadLine;
 use json_tree::Scratch;
-use line_flaws::{Flaw, flaw_of_line};
 use no_memory::NoMemory;
 use std::alloc::Global;
 use std::io::Write;

@@ -3,10 +3,10 @@ use Rattle.std.specs.Prelude.{ℕ, List, [], ◌∷◌, Bool, not, Option, Some,
 use Rattle.std.specs.Prelude.{codes, find, is_some, map, option_and_then, option_map}
 use Rattle.serde_json.specs.Data.{Data}
 use Rattle.serde_json.specs.Find.{as_object}
-use Rattle.line_flaws.specs.declared.flaw.Flaw.{Flaw}
-use Rattle.line_flaws.specs.declared.flaw.Flaw.TheVariants as flaws
-use Rattle.line_flaws.specs.declared.flaw.Member.{Member}
-use Rattle.line_flaws.specs.declared.flaw.Member.TheVariants as parts
+use Rattle.desk_lines.specs.declared.flaw.Flaw.{Flaw}
+use Rattle.desk_lines.specs.declared.flaw.Flaw.TheVariants as flaws
+use Rattle.desk_lines.specs.declared.flaw.Member.{Member}
+use Rattle.desk_lines.specs.declared.flaw.Member.TheVariants as parts
 use Rattle.json_requests.specs.Kinds.{Kind}
 use Rattle.json_requests.specs.Kinds as kinds
 use Rattle.json_requests.specs.Members.{text_at, word_at, token_at, revision_at, before_at}

@@ -5,7 +5,7 @@ ghost use Rattle.std.specs.Prelude.{◌≡◌, ◌↔◌, ℕ, List, ◌∷◌, 
 ghost use Rattle.json_requests.specs.declared.bad.BadLine.TheVariants as bad;
 ghost use Rattle.json_requests.specs.Kinds.{Kind, line_members, members_of};
 ghost use Rattle.json_requests.specs.Requests.{request_in};
-ghost use Rattle.line_flaws.specs.Flaws.{flaw_in, member_word, parts_of};
+ghost use Rattle.desk_lines.specs.Flaws.{flaw_in, member_word, parts_of};
 
 /// Something is wrong with a line just where it is JSON and no request.
 pub fn a_line_has_a_flaw_where_it_is_no_request()

@@ -1,7 +1,7 @@
 //! What is wrong with a line that is no request.
 
 ghost use Rattle.std.specs.Prelude.{◌≡◌, option_map};
-ghost use Rattle.line_flaws.specs.Flaws.{flaw_word, member_word};
+ghost use Rattle.desk_lines.specs.Flaws.{flaw_word, member_word};
 
 /// A member of a request's line, besides `ask`.
 #[derive(Clone, Copy)]

@@ -2,8 +2,8 @@
 
 ghost use Rattle.std.specs.Prelude.{◌≡◌, IfOk};
 ghost use Rattle.json_tree.specs.View.{view};
-ghost use Rattle.line_flaws.specs.Flaws.{flaw_among, flaw_at, flaw_by, flaw_in};
-ghost use Rattle.line_flaws.specs.Flaws.{profile_parts, revision_parts};
+ghost use Rattle.desk_lines.specs.Flaws.{flaw_among, flaw_at, flaw_by, flaw_in};
+ghost use Rattle.desk_lines.specs.Flaws.{profile_parts, revision_parts};
 ghost use Rattle.json_requests.specs.Kinds.{kind_among, kind_of, subject_kinds};
 
 use crate::flaw::{Flaw, Member};

@@ -1,7 +1,7 @@
 use Rattle.std.proofs.Common.{◌∙◌, Err, ap, option_and_then, sym}
-use Rattle.line_flaws.specs.Flaws.{flaw_at}
+use Rattle.desk_lines.specs.Flaws.{flaw_at}
 use Rattle.json_requests.proofs.RequestFacts.{value_is, value_is_none}
-use Rattle.line_flaws.proofs.flawed.flaw_of_line.Goals as goal
+use Rattle.desk_lines.proofs.flawed.flaw_of_line.Goals as goal
 
 pub returns-in-Ok : goal.returns-in-Ok
 returns-in-Ok c = rw (value_is c.args.line.now _ c.in-Ok.ensures.ok.0 c.in-Ok.ensures.ok.1) c.flaw_at.ensures

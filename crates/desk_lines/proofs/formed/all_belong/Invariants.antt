@@ -1,8 +1,8 @@
 use Rattle.std.proofs.Common.{◌≡◌, ◌∷◌, codes, drop, map}
 use Rattle.json_tree.specs.View.{members_view}
-use Rattle.line_flaws.specs.Flaws.{member_word}
+use Rattle.desk_lines.specs.Flaws.{member_word}
 use Rattle.json_requests.specs.Objects.{all_belong}
-use Rattle.line_flaws.proofs.formed.all_belong.Given as goal
+use Rattle.desk_lines.proofs.formed.all_belong.Given as goal
 
 abbrev pub invariant-loop-name : goal.invariant-loop-name
 invariant-loop-name l =

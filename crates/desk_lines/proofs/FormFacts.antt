@@ -8,10 +8,10 @@ use Rattle.json_tree.specs.View.{members_view}
 use Rattle.json_tree.proofs.Views.{Entry}
 use Rattle.json_requests.specs.declared.fault.LineFault.{LineFault}
 use Rattle.json_requests.specs.declared.fault.LineFault.TheVariants.{NotJson, NotARequest, NoMemory}
-use Rattle.line_flaws.specs.declared.flaw.Member.{Member}
+use Rattle.desk_lines.specs.declared.flaw.Member.{Member}
 use Rattle.json_requests.specs.Faults.{Gives}
-use Rattle.line_flaws.specs.Flaws.{member_word}
-use Rattle.line_flaws.specs.Reads.{TellsRead}
+use Rattle.desk_lines.specs.Flaws.{member_word}
+use Rattle.desk_lines.specs.Reads.{TellsRead}
 use Rattle.json_requests.specs.Objects.{all_belong}
 
 -- what is told of a part is whether the definition has it

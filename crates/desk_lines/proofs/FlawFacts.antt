@@ -4,10 +4,10 @@ use Rattle.std.specs.Prelude.{◌↔◌}
 use Rattle.serde_json.specs.Data.{Data, null, boolean, number, string, array, object}
 use Rattle.office_words.specs.declared.name.ProfileName.{ProfileName}
 use Rattle.json_requests.specs.declared.bad.BadLine.TheVariants as bad
-use Rattle.line_flaws.specs.declared.flaw.Flaw.TheVariants as flaws
-use Rattle.line_flaws.specs.declared.flaw.Member.{Member}
-use Rattle.line_flaws.specs.declared.flaw.Member.TheVariants as parts
-use Rattle.line_flaws.specs.Flaws.{first_unformed, flaw_at, flaw_by, flaw_in, member_word, parts_of}
+use Rattle.desk_lines.specs.declared.flaw.Flaw.TheVariants as flaws
+use Rattle.desk_lines.specs.declared.flaw.Member.{Member}
+use Rattle.desk_lines.specs.declared.flaw.Member.TheVariants as parts
+use Rattle.desk_lines.specs.Flaws.{first_unformed, flaw_at, flaw_by, flaw_in, member_word, parts_of}
 use Rattle.json_requests.specs.Kinds.{Kind, line_members, members_of}
 use Rattle.json_requests.specs.Kinds as kinds
 use Rattle.json_requests.specs.Members.{◌>>=◌, name_at, text_at, token_at, word_at, revision_at, before_at, digest_at, roles_at, vote_at}

@@ -1,6 +1,6 @@
 use Rattle.std.proofs.Common.{◌∙◌, sym}
-use Rattle.line_flaws.proofs.FormFacts.{another_part, part_belongs}
-use Rattle.line_flaws.proofs.formed.all_belong.Goals as goal
+use Rattle.desk_lines.proofs.FormFacts.{another_part, part_belongs}
+use Rattle.desk_lines.proofs.formed.all_belong.Goals as goal
 
 pub returns-then-not-may_stand : goal.returns-then-not-may_stand
 returns-then-not-may_stand c =

@@ -1,5 +1,5 @@
-use Rattle.line_flaws.proofs.FormFacts.{read_is}
-use Rattle.line_flaws.proofs.formed.is_formed.Goals as goal
+use Rattle.desk_lines.proofs.FormFacts.{read_is}
+use Rattle.desk_lines.proofs.formed.is_formed.Goals as goal
 
 pub returns-in-Token : goal.returns-in-Token
 returns-in-Token c = rw c.in-Token.is (read_is _ _ _ _ c.token_of.ensures c.is_read.ensures)

@@ -4,8 +4,8 @@ ghost use Rattle.std.specs.Prelude.{◌≡◌, ◌||◌, ◌∷◌, IfOk, codes,
 ghost use Rattle.std.specs.List.{list_any};
 ghost use Rattle.std.specs.Str.{bytes_eq};
 ghost use Rattle.json_tree.specs.View.{members_view, view};
-ghost use Rattle.line_flaws.specs.Flaws.{first_unformed, is_formed, member_word};
-ghost use Rattle.line_flaws.specs.Reads.{TellsRead};
+ghost use Rattle.desk_lines.specs.Flaws.{first_unformed, is_formed, member_word};
+ghost use Rattle.desk_lines.specs.Reads.{TellsRead};
 ghost use Rattle.json_requests.specs.Objects.{all_belong, has_no_other};
 
 use crate::flaw::Member;

@@ -1,2 +1,0 @@
-mod FlawFacts
-mod FormFacts

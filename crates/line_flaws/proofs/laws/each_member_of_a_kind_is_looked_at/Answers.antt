@@ -1,5 +1,0 @@
-use Rattle.line_flaws.proofs.FlawFacts.{parts_are}
-use Rattle.line_flaws.proofs.laws.each_member_of_a_kind_is_looked_at.Goals as goal
-
-pub returns : goal.returns
-returns c = parts_are
