@@ -172,22 +172,6 @@ module _ {A : Type 0} {Found : History → A → Type 0} (judge : History → Ve
     crash = λ clean trees may. may;
   }
 
-  -- it comes to this, and nothing is read for it
-  pub found_at_once : (s : State) (a : A) → IsIdle s → ((h : History) → IsLawfulHistory h → Found h a) → Judges s s (Ok a) judge Found
-  found_at_once s a idle is = record {
-    idle = idle;
-    clean = λ clean. clean;
-    survives = survives_same s _;
-    settled = λ settled. settled;
-    stays = λ clean is_open. is_open;
-    shut = λ clean shut. shut;
-    told = λ h lawful shows clean. is h lawful;
-    cause = λ h lawful shows clean. tt;
-    shown = λ t shows clean. shows;
-    same = λ settled clean is_open. (refl, refl);
-    crash = λ clean trees may. may;
-  }
-
   -- nothing is done for no memory
   pub failed_at_once : (s : State) (f : Fault) → IsIdle s → f ≡ NoMemory witness → Judges {A = A} s s (Err (refusals.Fault f)) judge Found
   failed_at_once s f idle memory = record {
@@ -312,6 +296,63 @@ then_judges {Then = Then} {Found = Found} judge first old mid new F b read resul
   crash = λ clean trees may. read.crash (rest.clean clean) trees (rest.crash clean trees may);
 }
 
+-- ---- a read after the rest of a request
+
+open_before : (b c : Bool) → (IsTrue b → IsTrue c) → c ≡ false → b ≡ false
+open_before true c stays shut = never_both c (stays refl) shut
+open_before false c stays shut = refl
+
+open_between : (b c : Bool) → (b ≡ false → c ≡ false) → IsTrue c → IsTrue b
+open_between true c shut is_open = refl
+open_between false c shut is_open = never_both c is_open (shut refl)
+
+module _ {A B C : Type 0} {Then : History → A → Type 0} {Found : History → C → Type 0} (judge : History → Verdict) (old mid new : State) (a : A) (first : Judges old mid (Ok a) judge Then) (F : Tables → B → Type 0) where
+  -- it comes to what both found
+  pub found_further : (b : B) (c : C) → ((h : History) → IsLawfulHistory h → Then h a → F (tables_of h) b → Found h c) → IsRead mid new (Ok b) F → Judges old new (Ok c) judge Found
+  found_further b c is second = record {
+    idle = second.leaves.idle;
+    clean = λ clean. first.clean (second.leaves.clean clean);
+    survives = survives_then old mid new _ _ (λ _. Unit {0}) (λ _ trees left. tt) (λ _ trees left. tt) first.survives second.leaves.survives;
+    settled = λ settled. second.leaves.settled;
+    stays = λ clean is_open. (second.leaves.answered clean).1;
+    shut = λ clean shut. (second.leaves.shut clean (first.shut (second.leaves.clean clean) shut)).0;
+    told = λ h lawful shows clean.
+        let before = second.leaves.clean clean in
+        is h lawful (first.told h lawful shows before) (second.found (tables_of h) (first.shown (tables_of h) shows before) clean);
+    cause = λ h lawful shows clean. tt;
+    shown = λ t shows clean. second.shown t (first.shown t shows (second.leaves.clean clean)) clean;
+    same = λ settled clean is_open.
+        let kept = first.same settled (second.leaves.clean clean) (second.leaves.answered clean).0 in
+        let mid_settled : mid.now ≡ mid.committed = kept.0 ∙ settled ∙ sym kept.1 in
+        let last = second.same mid_settled clean is_open in
+        (last.0 ∙ kept.0, last.1 ∙ kept.1);
+    crash = λ clean trees may. first.crash (second.leaves.clean clean) trees (second.crash clean trees may);
+  }
+
+  -- the second failed
+  pub fails_further : (f : Fault) → IsRead {A = B} mid new (Err f) F → Judges {A = C} old new (Err (refusals.Fault f)) judge Found
+  fails_further f second = record {
+    idle = second.leaves.idle;
+    clean = λ clean. first.clean (second.leaves.clean clean);
+    survives = survives_then old mid new _ _ (λ _. Unit {0}) (λ _ trees left. tt) (λ _ trees left. tt) first.survives second.leaves.survives;
+    settled = λ settled. second.leaves.settled;
+    stays = λ clean is_open. tt;
+    shut = λ clean shut. (second.leaves.shut clean (first.shut (second.leaves.clean clean) shut)).0;
+    told = λ h lawful shows clean is. never_unformed {A = B} mid new (Err f) (second.cause (tables_of h) (first.shown (tables_of h) shows (second.leaves.clean clean)) clean) (ap Err is);
+    cause = λ h lawful shows clean.
+        let before = second.leaves.clean clean in
+        met_between old mid new new f first.survives.counts (omega arith) (open_before old.is_open mid.is_open (first.stays before))
+        (second.cause (tables_of h) (first.shown (tables_of h) shows before) clean);
+    shown = λ t shows clean. second.shown t (first.shown t shows (second.leaves.clean clean)) clean;
+    same = λ settled clean is_open.
+        let before = second.leaves.clean clean in
+        let kept = first.same settled before (open_between mid.is_open new.is_open (λ shut. (second.leaves.shut clean shut).0) is_open) in
+        let mid_settled : mid.now ≡ mid.committed = kept.0 ∙ settled ∙ sym kept.1 in
+        let last = second.same mid_settled clean is_open in
+        (last.0 ∙ kept.0, last.1 ∙ kept.1);
+    crash = λ clean trees may. first.crash (second.leaves.clean clean) trees (second.crash clean trees may);
+  }
+
 -- ---- in other words
 
 -- what its kind came to is what it comes to
@@ -356,6 +397,23 @@ refused_as judge old new (refusals.Fault fault) judged = record {
   shut = judged.shut;
   told = judged.told;
   cause = judged.cause;
+  shown = judged.shown;
+  same = judged.same;
+  crash = judged.crash;
+}
+
+-- what wanted memory fails, whatever it came to
+pub failed_as : {A B : Type 0} {Then : History → A → Type 0} {Last : History → B → Type 0} (judge : History → Verdict) (old new : State) (a : A) (f : Fault) → f ≡ NoMemory witness
+    → Judges old new (Ok a) judge Then → Judges {A = B} old new (Err (refusals.Fault f)) judge Last
+failed_as judge old new a f memory judged = record {
+  idle = judged.idle;
+  clean = judged.clean;
+  survives = judged.survives;
+  settled = judged.settled;
+  stays = λ clean is_open. tt;
+  shut = judged.shut;
+  told = λ h lawful shows clean. never_memory f memory;
+  cause = λ h lawful shows clean. of_memory old new f memory;
   shown = judged.shown;
   same = judged.same;
   crash = judged.crash;

@@ -11,11 +11,9 @@ use Rattle.office_words.specs.Lists.{IsAuthor, AreBelow, AreNewest, told_revisio
 use Rattle.office_store.specs.Calls.{IsRead}
 use Rattle.office_store.specs.Briefs.{brief_of, IsBriefOf}
 use Rattle.office_store.specs.Lists.{most_read}
-use Rattle.office_store.specs.Summaries.{summary_of}
 use Rattle.office_store.specs.declared.briefs.Brief.{Brief}
-use Rattle.office_store.specs.declared.summaries.Summary.{Summary}
 use Rattle.office_words.specs.Reads.{HasRevision, IsIssued}
-use Rattle.office_policy.specs.Revisions.{revision_of, revision_count, issued_revision}
+use Rattle.office_policy.specs.Revisions.{is_author, revision_count, issued_revision}
 use Rattle.office_policy.specs.LooksBack.{LooksBack}
 use Rattle.office_policy.specs.History.{History}
 use Rattle.office_policy.specs.Lawful.{IsLawfulHistory}
@@ -24,63 +22,31 @@ use Rattle.office_policy.specs.TablesOf.{tables_of}
 use Rattle.office_policy.proofs.LookUps.{author_is, found_is}
 use Rattle.office_policy.proofs.IssuedFacts.{issued_is}
 use Rattle.office_policy.proofs.NewestFacts.{below_is, all_below}
-use Rattle.office_judging.specs.Looked.{summary_at, authored_at, issued_at, brief_at, none_at, newest_at, hold_at}
+use Rattle.office_judging.specs.Looked.{newest_at}
 use Rattle.office_judging.proofs.Judging.{read_as}
-
--- a revision
-pub one_revision : (old new : State) (p : ProfileName) (n : ℕ) (found : Option RevisionRow) → IsRead old new (Ok found) (λ t r. r ≡ t.revisions p n)
-    → IsRead old new (Ok found) (LooksBack (λ h. revision_of h p n))
-one_revision old new p n found = read_as old new _ _ found found (λ t is h lawful same. is ∙ ap (λ u. u.revisions p n) same)
-
--- a revision without its text
-pub one_summary : (old new : State) (p : ProfileName) (n : ℕ) (found : Option Summary) → IsRead old new (Ok found) (λ t s. s ≡ option_map summary_of (t.revisions p n))
-    → IsRead old new (Ok found) (LooksBack (summary_at p n))
-one_summary old new p n found = read_as old new _ _ found found (λ t is h lawful same. is ∙ ap (λ u. option_map summary_of (u.revisions p n)) same)
-
--- the same, and whether a user is an author of its profile
-pub authored : (p : ProfileName) (n : ℕ) (name : List ℕ) (found : Option Summary) (author : Bool) (t : Tables) → found ≡ option_map summary_of (t.revisions p n)
-    → ((author ≡ true) ↔ IsAuthor t p name) → LooksBack (authored_at p n name) t (found, author)
-authored p n name found author t is tells h lawful same =
-    let revision = is ∙ ap (λ u. option_map summary_of (u.revisions p n)) same in
-    let writes = author_is h p name author (subst (λ u. (author ≡ true) ↔ IsAuthor u p name) same tells) in
-    λ i. (revision i, writes i)
-
--- the issued revision of a profile, and whether that is held
-pub issued : (p : ProfileName) (found : Option RevisionRow) (held : Bool) (t : Tables) → IsIssued t p found → held ≡ t.holds p
-    → LooksBack (issued_at p) t (found, held)
-issued p found held t is is_held h lawful same =
-    let revision = issued_is h p found (subst (λ u. IsIssued u p found) same is) in
-    let holds = is_held ∙ ap (λ u. u.holds p) same in
-    λ i. (revision i, holds i)
-
--- the same without its text
-pub issued_briefly : (p : ProfileName) (found : Option Brief) (held : Bool) (t : Tables) → IsBriefOf (IsIssued t p) found → held ≡ t.holds p
-    → LooksBack (brief_at p) t (found, held)
-issued_briefly p found held t is is_held h lawful same =
-    let holds = is_held ∙ ap (λ u. u.holds p) same in
-    λ i. (of_brief found is i, holds i)
-  where
-    of_brief : (found : Option Brief) → IsBriefOf (IsIssued t p) found → found ≡ option_map brief_of (issued_revision h p)
-    of_brief None none = ap (option_map brief_of) (issued_is h p None (subst (λ u. IsIssued u p None) same none))
-    of_brief (Some b) it = ap Some (sym it.2) ∙ ap (option_map brief_of) (issued_is h p (Some it.0) (subst (λ u. IsIssued u p (Some it.0)) same it.1))
 
 not_twice : (a b : Bool) → a ≡ not b → not a ≡ b
 not_twice a true e = ap not e
 not_twice a false e = ap not e
 
--- whether a profile has no revision, and whether it is held
-pub standing : (p : ProfileName) (there held : Bool) (t : Tables) → ((there ≡ true) ↔ HasRevision t p) → held ≡ t.holds p
-    → LooksBack (hold_at p) t (not there, held)
-standing p there held t tells is_held h lawful same =
-    let none = not_twice there (revision_count h p == 0) (found_is h p there (subst (λ u. (there ≡ true) ↔ HasRevision u p) same tells)) in
-    let holds = is_held ∙ ap (λ u. u.holds p) same in
-    λ i. (none i, holds i)
+module _ (h : History) (lawful : IsLawfulHistory h) (t : Tables) (same : t ≡ tables_of h) (q p : ProfileName) (is : q ≡ p) where
+  -- whether a user is an author of a profile
+  pub author_back : (name : List ℕ) (found : Bool) → ((found ≡ true) ↔ IsAuthor t q name) → found ≡ is_author h p name
+  author_back name found tells = author_is h q name found (subst (λ u. (found ≡ true) ↔ IsAuthor u q name) same tells) ∙ ap (λ x. is_author h x name) is
 
--- whether a profile has no revision
-pub no_revision : (old new : State) (p : ProfileName) (there : Bool) → IsRead old new (Ok there) (λ t is. (is ≡ true) ↔ HasRevision t p)
-    → IsRead old new (Ok (not there)) (LooksBack (none_at p))
-no_revision old new p there = read_as old new _ _ there (not there) (λ t tells h lawful same.
-    not_twice there (revision_count h p == 0) (found_is h p there (subst (λ u. (there ≡ true) ↔ HasRevision u p) same tells)))
+  -- the issued revision of a profile
+  pub issued_back : (found : Option RevisionRow) → IsIssued t q found → found ≡ issued_revision h p
+  issued_back found tells = issued_is h q found (subst (λ u. IsIssued u q found) same tells) ∙ ap (issued_revision h) is
+
+  -- the same without its text
+  pub brief_back : (found : Option Brief) → IsBriefOf (IsIssued t q) found → found ≡ option_map brief_of (issued_revision h p)
+  brief_back None none = ap (option_map brief_of) (issued_back None none)
+  brief_back (Some b) it = ap Some (sym it.2) ∙ ap (option_map brief_of) (issued_back (Some it.0) it.1)
+
+  -- whether a profile has no revision
+  pub none_back : (there : Bool) → ((there ≡ true) ↔ HasRevision t q) → not there ≡ (revision_count h p == 0)
+  none_back there tells =
+      not_twice there (revision_count h q == 0) (found_is h q there (subst (λ u. (there ≡ true) ↔ HasRevision u q) same tells)) ∙ ap (λ x. revision_count h x == 0) is
 
 -- the newest revisions of a profile before a number
 pub newest : (old new : State) (p : ProfileName) (before : Option ℕ) (below : ℕ) (told : List ProfileRevision) → below ≡ unwrap_or before (suc max_revisions)

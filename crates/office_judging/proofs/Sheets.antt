@@ -1,21 +1,13 @@
 -- What is read for a sheet is the sheet of looking back, and what is answered of it.
-use Rattle.std.proofs.Common.{◌≡◌, ◌∙◌, ℕ, List, Option, Some, None, sym, ap, subst}
+use Rattle.std.proofs.Common.{◌≡◌, ◌∙◌, ℕ, List, Some, None, ap, subst}
 use Rattle.std.specs.Prelude.{option_map}
-use Rattle.review_policy.specs.declared.act.RevisionView.TheVariants.{Sheet}
-use Rattle.review_policy.specs.declared.ask.Ask.TheVariants as ask
 use Rattle.office_words.specs.declared.name.ProfileName.{ProfileName}
-use Rattle.review_policy.specs.declared.answer.Reply.TheVariants as reply
 use Rattle.office_words.specs.declared.revision.VoteRow.{VoteRow}
 use Rattle.review_sheet.specs.Sheet.{sheet_text}
-use Rattle.office_words.specs.declared.row.UserRow.{UserRow}
 use Rattle.office_words.specs.declared.row.RevisionRow.{RevisionRow}
 use Rattle.office_words.specs.Tables.{Tables}
 use Rattle.office_words.specs.Lists.{AreStanding}
-use Rattle.office_policy.specs.History.{History}
 use Rattle.office_policy.specs.LooksBack.{LooksBack}
-use Rattle.office_policy.specs.Revisions.{revision_of}
-use Rattle.office_policy.specs.Sheets.{sheet_of}
-use Rattle.office_policy.specs.Verdict.{accepted, done_of, of_revision}
 use Rattle.office_judging.specs.declared.baseline.Comparison.{Comparison}
 use Rattle.office_policy.proofs.StandingFacts.{standing_is}
 use Rattle.office_judging.specs.Compared.{compared_at, sheet_against}
@@ -39,10 +31,3 @@ sheet_there p n r text t there looks h lawful same =
 -- and none of one that isn't there
 pub no_sheet : (p : ProfileName) (n : ℕ) (t : Tables) → None ≡ t.revisions p n → LooksBack (sheet_at p n) t None
 no_sheet p n t there h lawful same = ap (option_map (λ r. sheet_text_of p r h)) (there ∙ ap (λ u. u.revisions p n) same)
-
--- the answer to who may see it
-pub sheet_told : (h : History) (caller : Option UserRow) (p : ProfileName) (n : ℕ) (r : RevisionRow) (text : List ℕ)
-    → revision_of h p n ≡ Some r → text ≡ sheet_text_of p r h → done_of h caller (ask.SeeRevision Sheet p n) ≡ accepted (reply.Sheet text) None
-sheet_told h caller p n r text there same =
-    ap (λ o. of_revision o (λ r. accepted (reply.Sheet (sheet_text (sheet_of h p r))) None)) there
-    ∙ ap (λ t. accepted (reply.Sheet t) None) (sym same)

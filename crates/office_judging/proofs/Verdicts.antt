@@ -1,12 +1,11 @@
 -- How a request meets its verdict, and what it comes to by its kind.
-use Rattle.std.proofs.Common.{◌≡◌, ◌∙◌, List, ℕ, true, Option, Some, None, Result, Ok, Err, IfOk, refl, sym, ap, subst}
+use Rattle.std.proofs.Common.{◌≡◌, ◌∙◌, List, ℕ, Option, Some, None, Result, Ok, Err, IfOk, refl, sym, ap, subst}
 use Rattle.sqlite.specs.State.{State}
 use Rattle.review_policy.specs.Rules.{first_denial}
 use Rattle.review_policy.specs.declared.ask.Ask.{Ask}
 use Rattle.review_policy.specs.declared.ask.Ask.TheVariants as ask
 use Rattle.review_policy.specs.declared.ask.Request.{Request}
 use Rattle.review_policy.specs.declared.answer.Answer.TheVariants.{Done, Denied, Fault}
-use Rattle.review_policy.specs.declared.answer.Reply.{Reply}
 use Rattle.review_policy.specs.declared.denial.Denial.{Denial}
 use Rattle.review_policy.specs.declared.denial.Rule.TheVariants.{CallerUnknown}
 use Rattle.office_words.specs.declared.row.UserRow.{UserRow}
@@ -22,11 +21,10 @@ use Rattle.office_policy.specs.History.{History}
 use Rattle.office_policy.specs.Verdict.{Verdict, denied, rules_of, done_of, fault_beside, judged, verdict_of, verdict}
 use Rattle.office_policy.specs.Lawful.{IsLawfulHistory}
 use Rattle.office_policy.specs.TablesOf.{tables_of}
-use Rattle.office_policy.specs.Handled.{only_reads}
 use Rattle.office_judging.specs.declared.refusal.Refusal.{Refusal}
 use Rattle.office_judging.specs.declared.refusal.Refusal.TheVariants as refusals
-use Rattle.office_judging.specs.Judged.{ComesTo, IsAskedBy, JudgesChange, JudgesFor, JudgesRead, ReadsIfAnswered}
-use Rattle.office_judging.specs.Steps.{allowed_of, answered_of}
+use Rattle.office_judging.specs.Judged.{ComesTo, IsAskedBy, JudgesChange, JudgesFor}
+use Rattle.office_judging.specs.Steps.{allowed_of}
 use Rattle.office_judging.proofs.Judging.{judged_as, refused_as, refused_at_once}
 
 -- ---- verdicts
@@ -60,16 +58,6 @@ module _ (old new : State) (caller : UserRow) (a b : Ask) (is : b ≡ a) where
   for_same : (told : Result Judgement Refusal) → JudgesFor old new told (Some caller) a → JudgesFor old new told (Some caller) b
   for_same told judged = subst (JudgesFor old new told (Some caller)) (sym is) judged
 
-  -- what only reads is answered
-  pub reads : (read : Result Reply Refusal) → JudgesRead old new read caller a → (told : Result Judgement Refusal) → told ≡ answered_of read → JudgesFor old new told (Some caller) b
-  reads (Ok reply) judged told same =
-      for_same told (subst (λ t. JudgesFor old new t (Some caller) a) (sym same) (record {
-        judged = judged_as (λ h. verdict_of h (Some caller) a) old new reply (judgements.Answered (Done reply)) (λ h found. found) judged;
-        asked = tt;
-      }))
-  reads (Err refusal) judged told same =
-      for_same told (subst (λ t. JudgesFor old new t (Some caller) a) (sym same) (record { judged = refused_as (λ h. verdict_of h (Some caller) a) old new refusal judged; asked = tt }))
-
   -- what changes something is allowed
   pub changes : (decided : Result Allowed Refusal) → JudgesChange old new decided caller a → IfOk decided (IsAskedBy a)
       → (told : Result Judgement Refusal) → told ≡ allowed_of decided → JudgesFor old new told (Some caller) b
@@ -88,17 +76,6 @@ judged_stranger s a refusal is idle = subst (λ r. JudgesFor s s (Err r) None a)
   judged = refused_at_once (λ h. verdict_of h None a) s (record { number = 1; rule = CallerUnknown }) None idle (λ h lawful. stranger h a);
   asked = tt;
 })
-
-module _ (a : Ask) where
-  -- what only reads is answered
-  pub answers_reads : only_reads a ≡ true → (read : Result Reply Refusal) (told : Result Judgement Refusal) → told ≡ answered_of read → ReadsIfAnswered a told
-  answers_reads only (Ok reply) told is = subst (ReadsIfAnswered a) (sym is) only
-  answers_reads only (Err refusal) told is = subst (ReadsIfAnswered a) (sym is) tt
-
-  -- and what is allowed isn't
-  pub answers_none : (decided : Result Allowed Refusal) (told : Result Judgement Refusal) → told ≡ allowed_of decided → ReadsIfAnswered a told
-  answers_none (Ok allowed) told is = subst (ReadsIfAnswered a) (sym is) tt
-  answers_none (Err refusal) told is = subst (ReadsIfAnswered a) (sym is) tt
 
 -- the caller who was found is the one who shows the token
 pub comes_as : (first judge : History → Verdict) (h : History) (IsFirst IsCaller : History → UserRow → Type 0) → first h ≡ judge h → ((user : UserRow) → IsFirst h user → IsCaller h user)

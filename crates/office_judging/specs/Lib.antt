@@ -7,3 +7,9 @@ pub mod Listed
 pub mod Looked
 pub mod Sheets
 pub mod Summarized
+pub mod Asking
+pub mod Changing
+pub mod Memo
+pub mod Refusing
+pub mod Reading
+pub mod Rows

@@ -1,37 +1,26 @@
 //! What each kind of request comes to, before anything is changed.
 
-ghost use Rattle.std.specs.Prelude.{◌≡◌, Some, IfOk, IsTrue};
+ghost use Rattle.std.specs.Prelude.{◌≡◌, Some, IsTrue};
 ghost use Rattle.sqlite.specs.Held.{state};
 ghost use Rattle.sqlite.specs.State.{HasCleanDisk};
-ghost use Rattle.review_policy.specs.declared.ask.Ask.TheVariants as ask;
 ghost use Rattle.office_store.specs.Shown.{IsIdle};
 ghost use Rattle.office_judging.specs.Judged.{IsAskedIfAllowed, IsSettled, JudgesFor, JudgesRequest};
-ghost use Rattle.office_judging.specs.Judged.{IsAskedBy, JudgesChange, JudgesNamed, JudgesRead};
+ghost use Rattle.office_judging.specs.Judged.{JudgesNamed};
 ghost use Rattle.office_judging.specs.Judged.{ReadsIfAnswered, UnlessFault};
 ghost use Rattle.office_judging.specs.Steps.{allowed_of, answered_of};
 
-use crate::adopt::judge_adoption;
 use crate::caller::me;
+use crate::changing::judge_change;
 use crate::enrol::judge_enrolment;
-use crate::fetch::fetch;
-use crate::hold::judge_hold;
 use crate::issue::judge_issue;
-use crate::issued::issued_now;
-use crate::list::list;
-use crate::newest::revisions;
+use crate::reading::judge_read;
 use crate::refusal::Refusal;
-use crate::sheet::sheet;
-use crate::show::show;
 use crate::submit::judge_submission;
-use crate::vote::judge_vote;
-use crate::withdraw::judge_withdrawal;
 use office_policy::{Allowed, Judgement};
 use office_store::{user_by_name, user_by_token};
-use office_words::{ProfileName, UserRow, Word};
+use office_words::{UserRow, Word};
 use profile_text::digest;
-use review_policy::{
-    Answer, Ask, Denial, ProfileView, Reply, Request, RevisionAct, RevisionView, Rule,
-};
+use review_policy::{Answer, Ask, Denial, Reply, Request, RevisionAct, Rule};
 use sqlite::{Alter, Connection};
 use std::alloc::Global;
 
@@ -49,64 +38,6 @@ fn allowed(judged: Result<Allowed, Refusal>) -> Result<Judgement, Refusal>
     Ok(Judgement::Allowed(judged?))
 }
 
-// Judges an act on a revision.
-fn judge_act<S: Alter>(
-    alloc: Global,
-    conn: &mut Connection<S>,
-    caller: UserRow,
-    act: RevisionAct,
-    name: &ProfileName,
-    number: u32,
-) -> Result<Allowed, Refusal>
-    requires { IsIdle (state S.Store conn.old) }
-    ensures judged { JudgesChange (state S.Store conn.old) (state S.Store conn.new) result
-        caller (ask.ActOnRevision act name.now number) }
-    ensures asked { IfOk result (IsAskedBy (ask.ActOnRevision act name.now number)) }
-{
-    match act {
-        RevisionAct::Issue => judge_issue(alloc, conn, caller, name, number),
-        RevisionAct::Withdraw => judge_withdrawal(conn, caller, name, number),
-        RevisionAct::Adopt => judge_adoption(conn, caller, name, number),
-    }
-}
-
-// Shows what is asked for of a revision.
-fn see_revision<S: Alter>(
-    alloc: Global,
-    conn: &mut Connection<S>,
-    caller: &UserRow,
-    view: RevisionView,
-    name: &ProfileName,
-    number: u32,
-) -> Result<Reply, Refusal>
-    requires { IsIdle (state S.Store conn.old) }
-    ensures { JudgesRead (state S.Store conn.old) (state S.Store conn.new) result
-        caller.now (ask.SeeRevision view name.now number) }
-{
-    match view {
-        RevisionView::Show => show(alloc, conn, caller, name, number),
-        RevisionView::Sheet => sheet(alloc, conn, caller, name, number),
-    }
-}
-
-// Shows what is asked for of a profile.
-fn see_profile<S: Alter>(
-    alloc: Global,
-    conn: &mut Connection<S>,
-    caller: &UserRow,
-    view: ProfileView,
-    name: &ProfileName,
-) -> Result<Reply, Refusal>
-    requires { IsIdle (state S.Store conn.old) }
-    ensures { JudgesRead (state S.Store conn.old) (state S.Store conn.new) result
-        caller.now (ask.SeeProfile view name.now) }
-{
-    match view {
-        ProfileView::Fetch => fetch(alloc, conn, caller, name),
-        ProfileView::Issued => issued_now(conn, caller, name),
-    }
-}
-
 // Judges what a known caller asks, by its kind.
 fn judge_for<S: Alter>(
     alloc: Global,
@@ -114,7 +45,9 @@ fn judge_for<S: Alter>(
     caller: UserRow,
     ask: &Ask,
 ) -> Result<Judgement, Refusal>
-    requires { IsIdle (state S.Store conn.old) }
+    requires idle { IsIdle (state S.Store conn.old) }
+    requires is_open { HasCleanDisk (state S.Store conn.old)
+        → IsTrue (state S.Store conn.old).is_open }
     ensures judged { JudgesFor
         (state S.Store conn.old) (state S.Store conn.new) result (Some caller) ask.now }
     ensures reads { ReadsIfAnswered ask.now result }
@@ -129,29 +62,24 @@ fn judge_for<S: Alter>(
         Ask::Submit { name, document } => {
             allowed(judge_submission(alloc, conn, caller, name, document))
         }
-        Ask::Vote {
-            name,
-            revision,
-            digest,
-            approve,
-        } => allowed(judge_vote(conn, caller, name, *revision, digest, *approve)),
         Ask::ActOnRevision {
             act,
             name,
             revision,
-        } => allowed(judge_act(alloc, conn, caller, *act, name, *revision)),
-        Ask::SeeRevision {
-            view,
-            name,
-            revision,
-        } => answered(see_revision(alloc, conn, &caller, *view, name, *revision)),
-        Ask::List { team } => answered(list(alloc, conn, &caller, team)),
-        Ask::ActOnProfile { act, name } => allowed(judge_hold(conn, caller, *act, name)),
-        Ask::SeeProfile { view, name } => answered(see_profile(alloc, conn, &caller, *view, name)),
-        Ask::Me => answered(Ok(me(caller))),
-        Ask::Revisions { name, before } => {
-            answered(revisions(alloc, conn, &caller, name, *before))
+        } => match act {
+            RevisionAct::Issue => allowed(judge_issue(alloc, conn, caller, name, *revision)),
+            RevisionAct::Withdraw | RevisionAct::Adopt => {
+                allowed(judge_change(alloc, conn, caller, ask))
+            }
+        },
+        Ask::Vote { .. } | Ask::ActOnProfile { .. } => {
+            allowed(judge_change(alloc, conn, caller, ask))
         }
+        Ask::Me => answered(Ok(me(caller))),
+        Ask::SeeRevision { .. }
+        | Ask::List { .. }
+        | Ask::SeeProfile { .. }
+        | Ask::Revisions { .. } => answered(judge_read(alloc, conn, &caller, ask)),
     }
 }
 
@@ -162,7 +90,9 @@ fn judge_caller<S: Alter>(
     caller: Option<UserRow>,
     ask: &Ask,
 ) -> Result<Judgement, Refusal>
-    requires { IsIdle (state S.Store conn.old) }
+    requires idle { IsIdle (state S.Store conn.old) }
+    requires is_open { HasCleanDisk (state S.Store conn.old)
+        → IsTrue (state S.Store conn.old).is_open }
     ensures judged { JudgesFor
         (state S.Store conn.old) (state S.Store conn.new) result caller ask.now }
     ensures reads { ReadsIfAnswered ask.now result }

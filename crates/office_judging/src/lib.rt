@@ -1,27 +1,25 @@
 //! What each request comes to, before anything is changed: the store is read, and the policy asked.
 #![tactic(auto)]
 
-mod adopt;
+mod asking;
 mod baseline;
 mod caller;
+mod changing;
 mod enrol;
-mod fetch;
-mod hold;
 mod issue;
-mod issued;
 pub mod judge;
-mod list;
+mod let_through;
+mod looked;
 mod need;
 mod newest;
 mod profiles;
 mod reading;
 mod refusal;
+mod refuses;
 mod revisions;
+mod row;
 mod sheet;
-mod show;
 mod submit;
-mod vote;
-mod withdraw;
 
 pub use refusal::Refusal;
 pub use revisions::state_of;

@@ -1,25 +1,18 @@
 //! Review sheets of revisions.
 
-ghost use Rattle.std.specs.Prelude.{◌≡◌, Some, IfOk, option_map};
+ghost use Rattle.std.specs.Prelude.{◌≡◌, IfOk, option_map};
 ghost use Rattle.sqlite.specs.Held.{state};
-ghost use Rattle.review_policy.specs.declared.act.RevisionView.TheVariants.{Sheet};
-ghost use Rattle.review_policy.specs.declared.ask.Ask.TheVariants as ask;
 ghost use Rattle.review_sheet.specs.Sheet.{sheet_text};
 ghost use Rattle.office_store.specs.Connections.{Reads};
 ghost use Rattle.office_store.specs.Shown.{IsIdle};
 ghost use Rattle.office_policy.specs.LooksBack.{LooksBack};
-ghost use Rattle.office_judging.specs.Judged.{JudgesRead};
 ghost use Rattle.office_judging.specs.Compared.{sheet_against};
 ghost use Rattle.office_judging.specs.Sheets.{sheet_at, sheet_text_of};
 
 use crate::baseline::{Comparison, base, compared_with};
 use crate::need::document;
-use crate::reading::read_facts;
-use crate::refusal::Refusal;
 use office_store::{revision, standing};
-use office_words::{Fault, ProfileName, RevisionRow, Text, UserRow, VoteRow, Word};
-use review_policy::Reply;
-use review_policy::decide::decide_read;
+use office_words::{Fault, ProfileName, RevisionRow, Text, VoteRow, Word};
 use review_sheet::SheetFacts;
 use sqlite::{Alter, Connection};
 use std::alloc::{AllocError, Global};
@@ -63,7 +56,7 @@ fn sheet_of(
 }
 
 // The review sheet of a revision that is there, at this moment.
-fn sheet_now<S: Alter>(
+pub(crate) fn sheet_now<S: Alter>(
     alloc: Global,
     conn: &mut Connection<S>,
     name: &ProfileName,
@@ -97,24 +90,4 @@ pub fn sheet_at<S: Alter>(
     };
     let sheet = sheet_now(alloc, conn, name, &row)?;
     Ok(Some(sheet))
-}
-
-// Shows the review sheet of a revision.
-pub(crate) fn sheet<S: Alter>(
-    alloc: Global,
-    conn: &mut Connection<S>,
-    caller: &UserRow,
-    name: &ProfileName,
-    number: u32,
-) -> Result<Reply, Refusal>
-    requires { IsIdle (state S.Store conn.old) }
-    ensures { JudgesRead (state S.Store conn.old) (state S.Store conn.new) result
-        caller.now (ask.SeeRevision Sheet name.now number) }
-{
-    decide_read(&read_facts(caller, &name.team, false))?;
-    let found = revision(alloc, conn, name, number)?;
-    decide_read(&read_facts(caller, &name.team, found.is_none()))?;
-    let Some(row) = found else { unreachable!() };
-    let sheet = sheet_now(alloc, conn, name, &row)?;
-    Ok(Reply::Sheet { sheet })
 }

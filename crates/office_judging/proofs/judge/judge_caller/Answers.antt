@@ -11,4 +11,4 @@ returns-in-Some-clause-judged g c =
 pub returns-in-None-clause-judged : goal.returns-in-None-clause-judged
 returns-in-None-clause-judged g c =
     subst (λ caller. JudgesFor (state g.S.Store c.args.conn.now) (state g.S.Store c.args.conn.now) (Err c.from.result) caller c.args.ask.now) (sym c.in-None.is)
-    (judged_stranger (state g.S.Store c.args.conn.now) c.args.ask.now c.from.result (rw c.by_first.ensures at c.from.ensures) c.requires)
+    (judged_stranger (state g.S.Store c.args.conn.now) c.args.ask.now c.from.result (rw c.by_first.ensures at c.from.ensures) c.requires.idle)
