@@ -4,11 +4,13 @@ import re
 import shutil
 import signal
 import socket
+import sqlite3
 import subprocess
 import sys
 import tempfile
 import threading
 import unittest
+from contextlib import closing
 from hashlib import sha256
 
 sys.dont_write_bytecode = True
@@ -27,6 +29,7 @@ SURROUNDINGS = {**os.environ, "LC_ALL": "C", "TZ": "UTC"}
 FOUNDING = ("root", "office", sha256(b"abc").hexdigest(), "CAP_SYS_ADMIN")
 
 UNJOURNALED = "office: without a journal, which this office will never have\n"
+WITHOUT = "office: without its journal, which tells nothing of what happens from now on\n"
 # the files of an office that was founded, and of one with a journal
 FOUNDED, FOUNDED_BY_ONE = {}, threading.Lock()
 
@@ -78,8 +81,30 @@ class Case(unittest.TestCase):
         with open(f"{self.folder}/{name}", "wb") as it:
             it.write(data if isinstance(data, bytes) else data.encode())
 
+    def library(self, code):
+        """A library of C that the program has before that of the system, by the surroundings that it is started in."""
+        if not shutil.which("cc"):
+            self.skipTest("cc isn't there")
+        path = f"{self.folder}/library.so"
+        subprocess.run(["cc", "-shared", "-fPIC", "-x", "c", "-o", path, "-"], input=code, check=True)
+        return {**SURROUNDINGS, "LD_PRELOAD": path}
+
     def is_there(self, name):
         return os.path.exists(f"{self.folder}/{name}")
+
+    def kept(self):
+        """The digest of each file but the program and logs: what only opens a database may leave an empty log, or fold one into its file."""
+        names = {it for it in os.listdir(self.folder) if not it.endswith("-wal")} - {"office", "examples"}
+        return {it: sha256(self.read(it)).hexdigest() for it in names}
+
+    def mark(self, name):
+        """The mark of a database, as SQLite finds it in a copy of the file and its log."""
+        with tempfile.TemporaryDirectory() as folder:
+            for ending in ("", "-wal"):
+                if self.is_there(f"{name}{ending}"):
+                    shutil.copy(f"{self.folder}/{name}{ending}", f"{folder}/it.db{ending}")
+            with closing(sqlite3.connect(f"{folder}/it.db")) as database:
+                return database.execute("PRAGMA user_version").fetchone()[0] % 2**32
 
     def start(self, *words, program="./office", **more):
         """Starts `office` with these words, where the streams that aren't given are pipes."""
@@ -102,6 +127,16 @@ class Case(unittest.TestCase):
         printed, said = self.finish(process, given.encode())
         return process.returncode, printed, said
 
+    def refused(self, *words, given=""):
+        """As `office`, of what has to be refused: where it serves an office, its first line is told, and no client is waited for."""
+        if words[0] != "serve":
+            return self.office(*words, given=given)
+        process = self.start(*words, stdin=subprocess.DEVNULL)
+        if line := process.stdout.readline().decode():
+            return None, line, ""
+        printed, said = self.finish(process)
+        return process.returncode, printed, said
+
     def found(self, is_journaled=False):
         """Puts a new office into the file `it.db`, with `it.journal` or without one. The first one is founded, and others are its copies."""
         with FOUNDED_BY_ONE:
@@ -112,9 +147,9 @@ class Case(unittest.TestCase):
         for name, data in FOUNDED[is_journaled].items():
             self.write(name, data)
 
-    def serve(self, *words):
+    def serve(self, *words, **more):
         """Has an office answer requests over HTTP, and gives the process and its port."""
-        process = self.start("serve", *words)
+        process = self.start("serve", *words, **more)
         line = process.stdout.readline().decode()
         listening = re.fullmatch(r"listening 127\.0\.0\.1:(\d+)\n", line)
         self.assertTrue(listening, f"the first line of serve: {line!r}, {process.stderr.read() if not line else b''}")

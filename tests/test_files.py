@@ -5,11 +5,10 @@ import shutil
 import socket
 import sqlite3
 import struct
-import subprocess
-import unittest
+from contextlib import closing
 from hashlib import sha256
 
-from program import FOUNDING, SURROUNDINGS, UNJOURNALED, Case, exchange, seals
+from program import FOUNDING, UNJOURNALED, Case, exchange, seals
 from test_limits import LONGEST as LONGEST_TEXT
 
 ENROL = json.dumps({"ask": "enrol", "token": "abc", "user": "ann", "team": "blue", "roles": ["author"], "digest": sha256(b"hello").hexdigest()}) + "\n"
@@ -43,12 +42,8 @@ class Documents(Case):
     def test_a_file_that_cannot_be_read_is_refused(self):
         self.assert_unread("examples", "read")
 
-    @unittest.skipUnless(shutil.which("cc"), "cc isn't there")
     def test_a_file_whose_reads_never_end_is_refused(self):
-        words = ["cc", "-shared", "-fPIC", "-x", "c", "-o", f"{self.folder}/interrupted.so", "-"]
-        subprocess.run(words, input=INTERRUPTED, check=True)
-        surroundings = {**SURROUNDINGS, "LD_PRELOAD": f"{self.folder}/interrupted.so"}
-        self.assert_unread("examples/web.json", "too-many-reads", env=surroundings)
+        self.assert_unread("examples/web.json", "too-many-reads", env=self.library(INTERRUPTED))
 
 
 class Offices(Case):
@@ -111,6 +106,19 @@ class Offices(Case):
         self.same((status, printed[:16], said), (1, DONE[:16], "office: disk\n"))
         listed = json.loads(self.office("desk", "it.db", given=LIST)[1])
         self.same([it["profile"] for it in listed["profiles"]], ["long", "web"])
+
+    def test_a_damaged_table_is_told_as_a_failing_disk(self):
+        self.found(is_journaled=True)
+        os.remove(f"{self.folder}/it.db-wal")
+        whole = self.read("it.db")
+        with closing(sqlite3.connect(f"{self.folder}/it.db")) as database:
+            [[size]] = database.execute("PRAGMA page_size")
+            roots = dict(database.execute("SELECT name, rootpage FROM sqlite_schema WHERE type = 'table'"))
+        self.same(len(roots), 6)
+        for table, page in roots.items():
+            self.write("it.db", whole[: size * (page - 1)] + b"\xff" * size + whole[size * page :])
+            for words in (["verify", "it.db", "it.journal"], ["desk", "it.db", "--journal", "it.journal"]):
+                self.same(self.office(*words, given=LIST), (1, "", "office: disk\n"), (table, words))
 
 
 # another order, a space, another writing of a letter, a member too many, one too few, one twice, numbers out of range, a word, a digest and
@@ -178,6 +186,30 @@ class Journals(Case):
         for words in (["init", database, *FOUNDING], ["desk", database], ["serve", database, "--requests", "1"]):
             self.same(self.office(*words, "--journal", journal), SAME_FILE, words)
         self.same(self.office("rebuild", database, journal), SAME_FILE)
+
+    def test_a_journal_beside_its_database_is_refused_before_anything_is_done(self):
+        self.found(is_journaled=True)
+        os.rename(f"{self.folder}/it.journal", f"{self.folder}/it.db-shm")
+        before = self.kept()
+        for words in (["desk", "it.db"], ["serve", "it.db", "--requests", "1"]):
+            self.same(self.refused(*words, "--journal", "it.db-shm", given=ENROL), SAME_FILE, words)
+            self.same(self.kept(), before, words)
+        os.rename(f"{self.folder}/it.db-shm", f"{self.folder}/it.journal")
+        self.same(self.office("desk", "it.db", "--journal", "it.journal", given=ENROL), (0, DONE, ""))
+
+    def test_files_of_one_number_on_two_file_systems_are_two(self):
+        # each of two new file systems gives its first file the same number as the other
+        mount = "mount -t tmpfs none a && mount -t tmpfs none b"
+        are_alike = "[ $(stat -c %i a) = $(stat -c %i b) ] && [ $(stat -c %i a/it) = $(stat -c %i b/it) ]"
+        if self.apart(f"mkdir a b && {mount} && touch a/it b/it && {are_alike}")[0]:
+            self.skipTest("no two file systems with files of one number can be mounted")
+        init = f"./office init a/it {' '.join(FOUNDING)} --journal b/it"
+        seen = self.apart(f"{mount} && {init} && {are_alike} && ./office desk a/it --journal b/it", given=ENROL)
+        self.same(seen, (0, f"founded\n{DONE}", ""))
+
+    def apart(self, script, **more):
+        """What a shell says whose mounts nobody else sees."""
+        return self.office("-rm", "sh", "-c", script, program="unshare", **more)
 
     def test_a_file_of_the_journal_is_no_database(self):
         for ending in ("-wal", "-journal", "-shm"):
