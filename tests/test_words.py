@@ -1,7 +1,7 @@
 """Words of command lines: which are refused, the stream that each text goes to, and what help says."""
 import os
 
-from program import Case
+from program import FOUNDING, Case
 
 # words that are no command line, and the first line of what is said of them
 REFUSED = (
@@ -29,6 +29,7 @@ SEAL = "59dcfe6e4451871df38be188b58762b68dfff603fb898971e569464b471834e1"
 # no seal of a line: one with a digit more or less or in upper case, none, and numbers of no line
 NO_SEALS = (f"1:{SEAL[:-1]}", f"1:{SEAL}0", f"1:{SEAL.upper()}", "1:", "1", f"0:{SEAL}", f"{2**64}:{SEAL}", f"one:{SEAL}", f":{SEAL}")
 
+LIST = '{"ask":"list","token":"nobody","team":"blue"}\n'
 EMPTY = '{"capabilities":{}}'
 CLOSED = '{"capabilities":{},"seccomp":{"defaultAction":"SCMP_ACT_KILL_PROCESS"}}'
 # command lines with their status, how standard output begins, and standard error
@@ -90,6 +91,35 @@ class Words(Case):
                 examples = self.office(*command.split(), "--help")[1].partition("\nExamples:\n")[2].split("\n")
                 first = next(it for it in examples if it.strip().startswith(f"office {command or 'init'} "))
                 self.assertIn(" --journal team.journal", first)
+
+
+class Closed(Case):
+    """A stream that is closed: what is meant for it goes into no file, though the next file that is opened could have its number."""
+
+    def test_nothing_is_written_into_a_file_for_a_closed_stream(self):
+        self.found(is_journaled=True)
+        journal = self.read("it.journal")
+        for closed, given, end in (
+            ("<&-", "", (1, "", "office: read\n")),
+            (">&-", LIST, (1, "", "office: write\n")),
+            (">&- 2>&-", LIST, (1, "", "")),
+            ("2>&-", "{}\n", (0, '{"answer":"bad","word":"not-a-request"}\n', "")),
+        ):
+            self.same(self.shell(f"./office desk it.db --journal it.journal {closed}", given=given), end, closed)
+            self.same(self.read("it.journal"), journal, closed)
+            self.assert_verified("it")
+
+    def test_an_office_is_founded_where_that_cannot_be_said(self):
+        init = f"./office init new.db {' '.join(FOUNDING)} --journal new.journal"
+        self.same(self.shell(f"{init} >&-"), (1, "", "office: write\n"))
+        self.assert_verified("new")
+
+    def shell(self, script, **more):
+        return self.office("-c", script, program="sh", **more)
+
+    def assert_verified(self, name):
+        status, printed, said = self.office("verify", f"{name}.db", f"{name}.journal")
+        self.same((status, printed[:18], said), (0, "verified 1 events,", ""))
 
 
 class Controls(Case):
