@@ -13,12 +13,17 @@ from test_limits import LONGEST as LONGEST_TEXT
 
 ENROL = json.dumps({"ask": "enrol", "token": "abc", "user": "ann", "team": "blue", "roles": ["author"], "digest": sha256(b"hello").hexdigest()}) + "\n"
 LIST = json.dumps({"ask": "list", "token": "hello", "team": "blue"}) + "\n"
+HOLD = json.dumps({"ask": "hold", "token": "hello", "team": "blue", "profile": "web"}) + "\n"
+EMPTY = '{"capabilities":{}}'
 DONE = '{"answer":"done"}\n'
 SUBMITTED = '{"answer":"done","digest":"67d59648e3164479ed30407333c338a60764f60cd31c54ca1cd477602ac5e5d6","revision":1}\n'
+DENIED = '{"answer":"denied","rule":2,"word":"role-missing"}\n'
+NO_PROFILE = '{"answer":"done","profiles":[]}\n'
 LISTED = '{"answer":"done","profiles":[{"issued":0,"profile":"web","revisions":1,"state":"open"}]}\n'
 BUSY = (1, "", "office: busy\n")
 SAME_FILE = (1, "", "office: same-file\n")
 NO_OFFICE = (1, "", "office: not-an-office\n")
+INDEXES = {"revisions_by_author": "team, profile, author", "revisions_by_state": "team, profile, state, number"}
 SEVERAL_PAGES = json.dumps({"capabilities": {}, "seccomp": {"defaultAction": "SCMP_ACT_LOG", "syscalls": [
     {"action": "SCMP_ACT_ALLOW", "names": [f"call_{number:050}" for number in range(300)]}]}})
 
@@ -27,11 +32,38 @@ def handed_in(profile, document):
     return json.dumps({"ask": "submit", "token": "hello", "team": "blue", "profile": profile, "document": document}) + "\n"
 
 
-# a library before that of the system, by which each read of the program is interrupted
+# libraries before that of the system, by which each read of the program is interrupted, or fails behind the bytes of a file, and by which no file
+# gets its length, as that of a database does where it is closed
 INTERRUPTED = b"""#include <errno.h>
 #include <unistd.h>
 ssize_t read(int from, void *into, size_t most) { (void)from, (void)into, (void)most; errno = EINTR; return -1; }
 """
+FAILING_AT_THE_END = b"""#include <errno.h>
+#include <sys/syscall.h>
+#include <unistd.h>
+ssize_t read(int from, void *into, size_t most) {
+    long count = syscall(SYS_read, from, into, most);
+    if (count == 0) { errno = EIO; return -1; }
+    return count;
+}
+"""
+UNLENGTHENED = b"""#include <errno.h>
+int ftruncate(int file, long length) { (void)file, (void)length; errno = EIO; return -1; }
+"""
+
+
+class Database(Case):
+    """A case that changes the database by another program, once the log beside it is gone."""
+
+    def remove_log(self):
+        if self.is_there("it.db-wal"):
+            os.remove(f"{self.folder}/it.db-wal")
+
+    def change(self, statement):
+        self.remove_log()
+        with sqlite3.connect(f"{self.folder}/it.db") as database:
+            database.execute(statement)
+        database.close()
 
 
 class Documents(Case):
@@ -42,23 +74,22 @@ class Documents(Case):
     def test_a_file_that_cannot_be_read_is_refused(self):
         self.assert_unread("examples", "read")
 
+    def test_a_file_whose_reads_fail_at_the_end_is_refused(self):
+        self.assert_unread("examples/web.json", "read", env=self.library(FAILING_AT_THE_END))
+
     def test_a_file_whose_reads_never_end_is_refused(self):
         self.assert_unread("examples/web.json", "too-many-reads", env=self.library(INTERRUPTED))
 
 
-class Offices(Case):
+class Offices(Database):
     def test_a_desk_that_ends_or_stops_leaves_all_in_the_one_file(self):
         self.found()
         self.remove_log()
         self.stop_desk(ENROL, DONE)
         self.remove_log()
-        self.same(self.office("desk", "it.db", given=handed_in("web", '{"capabilities":{}}')), (0, SUBMITTED, ""))
+        self.same(self.office("desk", "it.db", given=handed_in("web", EMPTY)), (0, SUBMITTED, ""))
         self.remove_log()
         self.same(self.office("desk", "it.db", given=LIST), (0, LISTED, ""))
-
-    def remove_log(self):
-        if self.is_there("it.db-wal"):
-            os.remove(f"{self.folder}/it.db-wal")
 
     def stop_desk(self, given, answered):
         """Has a desk answer lines whose input fails then: it comes from a connection that is reset."""
@@ -84,17 +115,26 @@ class Offices(Case):
         self.same(self.office("desk", "it.db", given=ENROL), (0, DONE, ""))
 
     def test_another_database_is_left_as_it_is(self):
-        with sqlite3.connect(f"{self.folder}/it.db") as database:
-            database.execute("CREATE TABLE note (id INTEGER PRIMARY KEY) STRICT")
-        database.close()
+        self.change("CREATE TABLE note (id INTEGER PRIMARY KEY) STRICT")
         before = self.read("it.db")
         self.same(self.office("desk", "it.db", given=LIST), NO_OFFICE)
         self.same(self.office("init", "it.db", *FOUNDING), NO_OFFICE)
         self.same(self.read("it.db"), before)
-        with sqlite3.connect(f"{self.folder}/it.db") as database:
-            database.execute("DROP TABLE note")
-        database.close()
+        self.change("DROP TABLE note")
         self.same(self.office("init", "it.db", *FOUNDING), (0, "founded\n", UNJOURNALED))
+
+    def test_an_office_is_opened_once_its_indexes_are_made(self):
+        self.found()
+        self.same(self.office("desk", "it.db", given=ENROL + handed_in("web", EMPTY)), (0, DONE + SUBMITTED, ""))
+        for index, columns in INDEXES.items():
+            self.change(f"DROP INDEX {index}")
+            self.same(self.office("desk", "it.db", given=LIST), (1, "", "office: no-index\n"), index)
+            self.change(f"create index {index} on revisions({columns})")
+            self.same(self.office("desk", "it.db", given=LIST), (0, LISTED, ""), index)
+
+    def test_a_founding_that_cannot_be_closed_is_told(self):
+        self.same(self.office("init", "it.db", *FOUNDING, env=self.library(UNLENGTHENED)), (1, "", "office: disk\n"))
+        self.same(self.office("init", "it.db", *FOUNDING), (1, "", "office: already-founded\n"))
 
     def test_an_office_that_cannot_be_closed_is_told(self):
         self.found()
@@ -109,7 +149,7 @@ class Offices(Case):
 
     def test_a_damaged_table_is_told_as_a_failing_disk(self):
         self.found(is_journaled=True)
-        os.remove(f"{self.folder}/it.db-wal")
+        self.remove_log()
         whole = self.read("it.db")
         with closing(sqlite3.connect(f"{self.folder}/it.db")) as database:
             [[size]] = database.execute("PRAGMA page_size")
@@ -122,7 +162,7 @@ class Offices(Case):
 
 
 # another order, a space, another writing of a letter, a member too many, one too few, one twice, numbers out of range, a word, a digest and
-# roles that aren't of their forms, a kind that changes nothing, and no object
+# roles that aren't of their forms, a kind that changes nothing, no member, and no object
 NO_LINES = (
     b'{"event":"hold","by":"sec","profile":"web","team":"blue"}',
     b'{"by": "sec","event":"hold","profile":"web","team":"blue"}',
@@ -136,12 +176,19 @@ NO_LINES = (
     b'{"by":"rev","digest":"ab","event":"vote","profile":"web","revision":2,"team":"blue","vote":"reject"}',
     b'{"by":"reg","digest":"' + b"ab" * 32 + b'","event":"enrol","roles":["security","author"],"team":"blue","user":"ann"}',
     b'{"by":"ann","event":"show","profile":"web","revision":1,"team":"blue"}',
+    b"{}",
     b"[]",
     b"",
 )
 
+# what a journal has of an enrolment and of what is handed in then
+ENROLLED = (b'{"by":"root","digest":"2cf24dba5fb0a30e26e83b2ac5b9e29e1b161e5c1fa7425e73043362938b9824","event":"enrol","roles":["author"],'
+            b'"team":"blue","user":"ann"}')
+HANDED_IN = (b'{"by":"ann","document":"{\\"capabilities\\":{\\"ambient\\":[],\\"bounding\\":[],\\"effective\\":[],\\"inheritable\\":[],'
+             b'\\"permitted\\":[]}}","event":"submit","profile":"web","team":"blue"}')
 
-class Journals(Case):
+
+class Journals(Database):
     def test_a_text_that_is_no_line_is_refused(self):
         for text in NO_LINES:
             with self.subTest(text):
@@ -160,13 +207,30 @@ class Journals(Case):
         self.assertFalse(self.is_there("it.journal-wal"))
         self.same(self.read("it.journal"), before)
 
+    def test_an_event_is_said_to_be_done_by_the_next_line_or_at_the_end(self):
+        self.found(is_journaled=True)
+        founded = seals.read(self.read("it.journal"))[0]
+        process = self.start("desk", "it.db", "--journal", "it.journal")
+        asked = (
+            (ENROL, DONE, [ENROLLED]),
+            (LIST, NO_PROFILE, []),
+            (HOLD, DENIED, []),
+            (handed_in("web", EMPTY), SUBMITTED, [seals.done(3), HANDED_IN]),
+        )
+        wanted = founded
+        for request, answer, lines in asked:
+            process.stdin.write(request.encode())
+            process.stdin.flush()
+            self.same(process.stdout.readline().decode(), answer)
+            wanted = [*wanted, *lines]
+            self.same(self.read("it.journal"), seals.sealed(wanted))
+        self.same((self.finish(process), process.returncode), (["", ""], 0))
+        self.same(self.read("it.journal"), seals.sealed([*wanted, seals.done(5)]))
+
     def test_an_event_that_a_fault_keeps_from_happening_is_struck_out(self):
         self.found(is_journaled=True)
-        os.remove(f"{self.folder}/it.db-wal")
         # nobody more can be enrolled: the greatest rowid of the users is taken
-        with sqlite3.connect(f"{self.folder}/it.db") as database:
-            database.execute("UPDATE users SET rowid = 9223372036854775807")
-        database.close()
+        self.change("UPDATE users SET rowid = 9223372036854775807")
         before = seals.read(self.read("it.journal"))[0]
         refused = '{"answer":"fault","word":"disk"}\n'
         self.same(self.office("desk", "it.db", "--journal", "it.journal", given=ENROL), (0, refused, ""))
