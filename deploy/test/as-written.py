@@ -30,8 +30,12 @@ sys.exit(os.waitstatus_to_exitcode(pty.spawn(["sh", "-c", sys.argv[1]], read, la
 # What is done before the blocks of a heading, and has to hold. The rescue of a registrar is kept apart from what follows, which has a journal again.
 ANSWERS = "timeout 60 sh -c 'until curl -s -H @team.token http://127.0.0.1:8081/p/blue | grep role-missing; do sleep 1; done'"
 FIRST = {
+    # an event is told; then no more are, since what follows puts other journals there
     "Tokens": [
         "cd /root",
+        "printf '{\"user\":\"kim\",\"team\":\"blue\",\"roles\":[],\"digest\":\"%064d\"}' 8 >kim.json && $share/deploy/enrol kim.json team.token http://127.0.0.1:8081",
+        "systemctl start office-notify@team && sleep 1 && journalctl -t office-event | grep 'team enrol [0-9]*: .*\"user\":\"kim\"'",
+        "systemctl disable --now office-notify@team.timer office-seal@team.timer",
         "systemctl stop office@team && tar -C / -cf /root/kept.tar var/lib/office/team etc/office && systemctl start office@team",
         ANSWERS,
         "mkdir -p /opt/failing && printf '#!/bin/sh\\ncase $* in *update*) echo UNIQUE constraint failed >&2; exit 19 ;; esac\\nexec /usr/bin/sqlite3 \"$@\"\\n' "
