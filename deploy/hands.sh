@@ -32,10 +32,37 @@ as_owner() (
     shift
     [ "$(id -u)" -eq 0 ] || exec "$@" 8>&- 9>&-
     user=$(power_over "$folder") || exit 1
+    become "$user" "$@"
+)
+
+# Goes on as a program, run as USER, or as root where that is nothing.
+become() {
+    user=$1
+    shift
     [ -n "$user" ] || exec "$@" 8>&- 9>&-
     group=$(id -g -- "$user" 2>/dev/null) || group=65534
     exec setsid -w setpriv --reuid "$user" --regid "$group" --clear-groups --no-new-privs -- "$@" 8>&- 9>&-
+}
+
+# The user in whose power PROGRAM is: the first one, other than root, who owns a folder on the way, a link to it, or itself. Nothing where all of it is
+# root's. Fails as power_over does.
+power_over_program() {
+    power_over "$(dirname -- "$1")" >/dev/null && power_over "$(dirname -- "$(readlink -f -- "$1")")" >/dev/null && power_over "$1"
+}
+
+# Runs PROGRAM, with its words, as the user in whose power it is.
+as_its_owner() (
+    [ "$(id -u)" -eq 0 ] || exec "$@" 8>&- 9>&-
+    user=$(power_over_program "$1") || exit 1
+    become "$user" "$@"
 )
+
+# Fails where this is root, and another user can change PROGRAM, or put another in its place.
+sees_own_program() {
+    [ "$(id -u)" -eq 0 ] || return 0
+    power_user=$(power_over_program "$1") || fail "$1 isn't run"
+    [ -z "$power_user" ] || fail "$power_user can change $1, or put another in its place: name a program of root's"
+}
 
 # What stands in FILE. No link is followed, and nothing is waited for where it is no file.
 read_out() {
