@@ -107,10 +107,10 @@ module _ {S D C L : Type 0} (g : Ghosts S) (f : DiskGhosts L) (Found : Result L 
       subst (λ r. IsServedWith g f Found d path mark Done Stops r) (sym is) (record { old = old; new = new; office = office; done = done; ended = closed })
   was_kept old new office (Ok a) (Err w) result done stops closed ended why is =
       subst (λ r. IsServedWith g f Found d path mark Done Stops r) (sym is)
-      (inr (inr (why, record { old = old; new = new; office = office; done = done; ended = ended })))
+      (inr (why, record { old = old; new = new; office = office; done = done; ended = ended }))
   was_kept old new office (Err w) closed result done stops _ ended why is =
       subst (λ r. IsServedWith g f Found d path mark Done Stops r) (sym is)
-      (inr (inl (record { old = old; new = new; office = office; done = stops; ended = ended })))
+      (inl (record { old = old; new = new; office = office; done = stops; ended = ended }))
 
   -- nothing was done with it
   pub was_only_kept : (x : Journaled (Held S) (SealedLog L f)) → IsKeptOffice g f Found (d.opened path) mark x → (closed : Result (Unit {0}) CommandFault)

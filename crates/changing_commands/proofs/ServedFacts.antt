@@ -1,7 +1,12 @@
 -- What came of serving, by how it ended.
-use Rattle.std.proofs.Common.{◌⊎◌, ℕ, Result, Ok, Err, inl, inr}
+use Rattle.std.proofs.Common.{◌⊎◌, ℕ, List, Result, Ok, Err, inl, inr}
 use Rattle.std.specs.Prelude.{IfErr, OnOk}
+use Rattle.command_line.specs.declared.command.JournalWords.{JournalWords}
+use Rattle.command_line.specs.declared.command.JournalWords.TheVariants.{Unnamed, Named, Without}
+use Rattle.command_host.specs.Known.{Known}
+use Rattle.command_host.specs.Openings.{FailsFor}
 use Rattle.command_host.specs.declared.fault.CommandFault.{CommandFault}
+use Rattle.changing_commands.specs.Served.{Comes, IsServedNamed, IsUnservedKept, IsUnservedUnnamed, IsUnservedWithout}
 
 module _ {X : Type 0} (Came : Result (Unit {0}) CommandFault → (old new : X) → Type 0) (old new : X) where
   pub all_served : (result : Result (Unit {0}) CommandFault) → Came result old new → OnOk result (Came (Ok (tt {0})) old new)
@@ -17,7 +22,15 @@ pub of_either : (P : Result (Unit {0}) CommandFault → Type 0) (result : Result
 of_either P (Ok done) ok err = ok
 of_either P (Err why) ok err = err
 
--- why no office with its journal was opened comes first of what can end serving one
-pub unkept_first : {A : Type 0} {M H : ℕ → Type 0} {P Q : ℕ → Type 0} → A ⊎ ((n : ℕ) × M n × H n × P n) → A ⊎ ((n : ℕ) × M n × H n × (P n ⊎ Q n))
-unkept_first (inl it) = inl it
-unkept_first (inr it) = inr (it.0, it.1, it.2, inl it.3)
+module _ {S D F L N : Type 0} (k : Known S D F L N) (Came : Comes) (path : List ℕ) (Unused Others : Type 0) (to : Unused → Others) where
+  -- a refusal says this of what was unused, where that says it
+  fails_as : (Refuses : CommandFault → Type 0) (Served : Type 0) (r : Result (Unit {0}) CommandFault) → FailsFor (λ why. Refuses why × Unused) r ⊎ Served
+      → FailsFor (λ why. Refuses why × Others) r ⊎ Served
+  fails_as Refuses Served (Ok done) (inl it) = absurd it
+  fails_as Refuses Served (Err why) (inl it) = inl (it.0, to it.1)
+  fails_as Refuses Served r (inr it) = inr it
+
+  pub unused_as : (journal : JournalWords) (r : Result (Unit {0}) CommandFault) → IsServedNamed k Came path Unused journal r → IsServedNamed k Came path Others journal r
+  unused_as Unnamed r it = fails_as (IsUnservedUnnamed k path) _ r it
+  unused_as Without r it = fails_as (IsUnservedWithout k path) _ r it
+  unused_as (Named file) r it = fails_as (IsUnservedKept k path file.now) _ r it

@@ -206,14 +206,13 @@ module _ {S L : Type 0} (g : Ghosts S) (f : DiskGhosts L)
     abbrev pub IsUnkept : CommandFault → Type 0
     IsUnkept why = IsOfOpening d path g why ⊎ WasNotKept (d.opened path) mark (IsEnded d) why
 
-    -- A command that serves an office with its journal ended so. Where it failed, there was no such
-    -- office; or it stopped for this, and the office was closed, whatever came of that. Or all was
-    -- done, and the office couldn't be closed.
+    -- An office was served with its journal, and that ended so. Where it stopped for this, the office
+    -- was closed, whatever came of that. Or all was done, and the office couldn't be closed.
     abbrev pub IsServedWith : (Done : (old new : Journaled (Held S) (SealedLog L f)) → Type 0)
         → (Stops : CommandFault → (old new : Journaled (Held S) (SealedLog L f)) → Type 0)
         → Result (Unit {0}) CommandFault → Type 0
     IsServedWith Done Stops (Ok done) =
         WasKept (d.opened path) mark Done (IsClosed d.closed)
     IsServedWith Done Stops (Err why) =
-        IsUnkept why ⊎ WasKept (d.opened path) mark (Stops why) (IsEnded d)
+        WasKept (d.opened path) mark (Stops why) (IsEnded d)
         ⊎ ((why ≡ fault.Close) × WasKept (d.opened path) mark Done (IsEnded d))

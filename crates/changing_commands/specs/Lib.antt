@@ -9,3 +9,4 @@ pub mod KeptHosts
 pub mod Rebuildings
 pub mod Founded
 pub mod Served
+pub mod Untouched

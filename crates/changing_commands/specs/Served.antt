@@ -12,9 +12,10 @@ use Rattle.command_host.specs.Marks.{has_journal, least_lines, parted_mark}
 use Rattle.command_host.specs.Openings.{FailsFor, IsNotMarked, IsOfOpening, IsServed, IsServedFrom}
 use Rattle.command_host.specs.Openings.{IsWithJournal, IsWithoutJournal}
 use Rattle.command_host.specs.declared.fault.CommandFault.{CommandFault}
-use Rattle.changing_commands.specs.Journals.{journaled_over, IsServedWith}
+use Rattle.changing_commands.specs.Journals.{journaled_over, IsServedWith, IsUnkept}
 use Rattle.changing_commands.specs.Lines.{HasEnded}
 use Rattle.changing_commands.specs.Serving.{IsServing}
+use Rattle.changing_commands.specs.Untouched.{AreUntouched}
 use Rattle.no_memory.specs.declared.witness.NoMemory.{«NoMemory» as Want}
 
 -- what is known of any office that was served, by how that ended
@@ -39,8 +40,9 @@ module _ {S D F L N : Type 0} (k : Known S D F L N) (path : List ℕ) where
   IsMarkedWith file result =
       FailsFor (IsNotMarked k.databases path) result
       ⊎ ((mark : ℕ) × k.databases.marked path (Ok mark)
-      × IsServedWith k.store k.log (k.finds file) k.databases path (least_lines mark)
-      (λ old new. new ≡ old) (λ why old new. ⊥) result)
+      × (FailsFor (IsUnkept k.store k.log (k.finds file) k.databases path (least_lines mark)) result
+      ⊎ IsServedWith k.store k.log (k.finds file) k.databases path (least_lines mark)
+      (λ old new. new ≡ old) (λ why old new. ⊥) result))
 
   -- the office was opened, and closed with the mark of one that goes on without its journal
   abbrev pub IsPartedAt : Result (Unit {0}) CommandFault → Type 0
@@ -49,7 +51,29 @@ module _ {S D F L N : Type 0} (k : Known S D F L N) (path : List ℕ) where
       ⊎ IsServedFrom k.store k.databases (k.databases.opened path) (λ old new. new ≡ old)
       (λ why old new. ⊥) (Some parted_mark) result
 
--- of the office at a path, which was served so
+  -- Why no office at the path is served without a journal: its database has a mark, or none that can be
+  -- read; or it has no mark, and no office is there.
+  abbrev pub IsUnservedUnnamed : CommandFault → Type 0
+  IsUnservedUnnamed why =
+      IsWithJournal k.databases path why
+      ⊎ (k.databases.marked path (Ok 0) × IsOfOpening k.databases path k.store why)
+
+  -- why none is served without its journal: its database wasn't marked so; or it was, and no office is
+  -- there
+  abbrev pub IsUnservedWithout : CommandFault → Type 0
+  IsUnservedWithout why =
+      IsPartedAt (Err why)
+      ⊎ (IsPartedAt (Ok (tt {0})) × IsOfOpening k.databases path k.store why)
+
+  -- why none is served with its journal: its database has no mark of one; or it has, and no office
+  -- with its journal is there
+  abbrev pub IsUnservedKept : (file : List ℕ) → CommandFault → Type 0
+  IsUnservedKept file why =
+      IsWithoutJournal k.databases path why
+      ⊎ ((mark : ℕ) × k.databases.marked path (Ok mark) × IsTrue (has_journal mark)
+      × IsUnkept k.store k.log (k.finds file) k.databases path mark why)
+
+-- of an office, which was served so
 module _ {S D F L N : Type 0} (k : Known S D F L N) (Came : Comes) where
   -- this office was, and closed as it was marked
   abbrev pub IsServedOffice : Held S → Result (Unit {0}) CommandFault → Type 0
@@ -58,40 +82,40 @@ module _ {S D F L N : Type 0} (k : Known S D F L N) (Came : Comes) where
       (λ why. Came _ (meaning_over k.store) (Err why)) None office result
 
   module _ (path : List ℕ) where
-    -- one that was opened there
+    -- one that was opened at a path
     abbrev pub IsServedThere : Result (Unit {0}) CommandFault → Type 0
     IsServedThere result =
         IsServedFrom k.store k.databases (k.databases.opened path)
         (Came _ (meaning_over k.store) (Ok (tt {0})))
         (λ why. Came _ (meaning_over k.store) (Err why)) None result
 
-    -- without a journal, where its database has no mark; or it has one, and wants its journal
-    abbrev pub IsServedUnnamed : Result (Unit {0}) CommandFault → Type 0
-    IsServedUnnamed result =
-        FailsFor (IsWithJournal k.databases path) result
-        ⊎ (k.databases.marked path (Ok 0)
-        × (FailsFor (IsOfOpening k.databases path k.store) result ⊎ IsServedThere result))
+    -- the one at a path was; or none is served, and this is so
+    module _ (Unused : Type 0) where
+      -- without a journal, where its database has no mark
+      abbrev pub IsServedUnnamed : Result (Unit {0}) CommandFault → Type 0
+      IsServedUnnamed result =
+          FailsFor (λ why. IsUnservedUnnamed k path why × Unused) result
+          ⊎ (k.databases.marked path (Ok 0) × IsServedThere result)
 
-    -- without its journal, once its database is marked so
-    abbrev pub IsServedWithout : Result (Unit {0}) CommandFault → Type 0
-    IsServedWithout result =
-        FailsFor (λ why. IsPartedAt k path (Err why)) result
-        ⊎ (IsPartedAt k path (Ok (tt {0}))
-        × (FailsFor (IsOfOpening k.databases path k.store) result ⊎ IsServedThere result))
+      -- without its journal, once its database is marked so
+      abbrev pub IsServedWithout : Result (Unit {0}) CommandFault → Type 0
+      IsServedWithout result =
+          FailsFor (λ why. IsUnservedWithout k path why × Unused) result
+          ⊎ (IsPartedAt k path (Ok (tt {0})) × IsServedThere result)
 
-    -- with its journal, where the mark of its database is of one
-    abbrev pub IsServedKept : (file : List ℕ) → Result (Unit {0}) CommandFault → Type 0
-    IsServedKept file result =
-        FailsFor (IsWithoutJournal k.databases path) result
-        ⊎ ((mark : ℕ) × k.databases.marked path (Ok mark) × IsTrue (has_journal mark)
-        × IsServedWith k.store k.log (k.finds file) k.databases path mark
-        (Came _ (journaled_over k.store k.log) (Ok (tt {0})))
-        (λ why. Came _ (journaled_over k.store k.log) (Err why)) result)
+      -- with its journal, where the mark of its database is of one
+      abbrev pub IsServedKept : (file : List ℕ) → Result (Unit {0}) CommandFault → Type 0
+      IsServedKept file result =
+          FailsFor (λ why. IsUnservedKept k path file why × Unused) result
+          ⊎ ((mark : ℕ) × k.databases.marked path (Ok mark) × IsTrue (has_journal mark)
+          × IsServedWith k.store k.log (k.finds file) k.databases path mark
+          (Came _ (journaled_over k.store k.log) (Ok (tt {0})))
+          (λ why. Came _ (journaled_over k.store k.log) (Err why)) result)
 
-    abbrev pub IsServedNamed : (journal : JournalWords) → Result (Unit {0}) CommandFault → Type 0
-    IsServedNamed journal result =
-        IfNamed journal (IsServedUnnamed result) (IsServedWithout result)
-        (λ file. IsServedKept file result)
+      abbrev pub IsServedNamed : (journal : JournalWords) → Result (Unit {0}) CommandFault → Type 0
+      IsServedNamed journal result =
+          IfNamed journal (IsServedUnnamed result) (IsServedWithout result)
+          (λ file. IsServedKept file result)
 
 module _ {S D F L N O : Type 0} (k : Known S D F L N) (contents : O → Option (List ℕ))
     (output wrote : Counted O) where
@@ -102,12 +126,12 @@ module _ {S D F L N O : Type 0} (k : Known S D F L N) (contents : O → Option (
       → Result (Unit {0}) CommandFault → Type 0
   IsDesk said_of errors noted came left want path journal result =
       IsServedNamed k
-      (λ X m. HasEnded contents said_of m came left output wrote errors noted want) path journal
-      result
+      (λ X m. HasEnded contents said_of m came left output wrote errors noted want) path
+      (AreUntouched came left output wrote errors noted × (want ≡ None)) journal result
 
   -- `serve`
   abbrev pub IsServedOver : (words : ServeWords) → Result (Unit {0}) CommandFault → Type 0
   IsServedOver words result =
       IsServedNamed k
       (λ X m ended old new. IsServing k.shows k.binds k.tells contents m words old new output wrote
-      ended) words.database.now words.journal result
+      ended) words.database.now (wrote ≡ output) words.journal result

@@ -1,11 +1,12 @@
 -- The office in which requests are tried.
-use Rattle.std.specs.Prelude.{◌≡◌, ◌⊎◌, ℕ, List, [], ◌∷◌, codes, Option, Result, Ok, Err}
+use Rattle.std.specs.Prelude.{◌≡◌, ◌⊎◌, ℕ, List, [], ◌∷◌, codes, Option, None, Result, Ok, Err}
 use Rattle.sqlite.specs.Held.{Held}
 use Rattle.memory_database.specs.MemoryStore.{MemoryStore, over_memory}
 use Rattle.review_office.specs.Meant.{meaning_over}
 use Rattle.streams.specs.declared.counted.Counted.{Counted}
 use Rattle.changing_commands.specs.Foundings.{founding_of, Described, IsFoundedAs}
 use Rattle.changing_commands.specs.Lines.{HasAnswered, HasStopped}
+use Rattle.changing_commands.specs.Untouched.{AreUntouched}
 use Rattle.command_host.specs.declared.fault.CommandFault.{CommandFault}
 use Rattle.command_host.specs.declared.fault.CommandFault.TheVariants as fault
 use Rattle.no_memory.specs.Witness.{witness}
@@ -25,8 +26,8 @@ pub record WasTried (Done : (old new : Held MemoryStore) → Type 0) : Type 0 wh
   pub founded : IsFoundedAs over_memory trial_founding old
   pub done : Done old new
 
--- a trial desk ends so: where it fails, there was no memory for the office, and it didn't begin; or it
--- stopped for this
+-- a trial desk ends so: where it fails, there was no memory for the office, and it didn't begin, so that
+-- this holds; or it stopped for this
 abbrev pub HasTried : (Unbegun : Type 0) → (Done : (old new : Held MemoryStore) → Type 0)
     → (Stops : CommandFault → (old new : Held MemoryStore) → Type 0)
     → Result (Unit {0}) CommandFault → Type 0
@@ -41,7 +42,7 @@ module _ {O E : Type 0} (contents : O → Option (List ℕ)) (said_of : E → Op
     (want : Option Want) where
   abbrev pub IsTrial : Result (Unit {0}) CommandFault → Type 0
   IsTrial result =
-      HasTried (noted ≡ errors)
+      HasTried (AreUntouched came left output wrote errors noted × (want ≡ None))
       (HasAnswered contents said_of (meaning_over over_memory) came output wrote errors noted want)
       (HasStopped contents said_of (meaning_over over_memory) came left output wrote errors noted want)
       result

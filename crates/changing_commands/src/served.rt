@@ -1,8 +1,10 @@
 //! An office in a file is served.
 
+ghost use Rattle.std.specs.Prelude.{◌≡◌};
 ghost use Rattle.command_host.specs.Outside.{known};
 ghost use Rattle.changing_commands.specs.Served.{Comes, IsServedKept, IsServedNamed, MayNote};
 ghost use Rattle.changing_commands.specs.Served.{IsServedOffice, IsServedUnnamed, IsServedWithout};
+ghost use Rattle.changing_commands.specs.Untouched.{AreUntouched};
 
 use crate::kept::{close_kept, kept_office_at};
 use crate::marking::part;
@@ -77,7 +79,9 @@ fn serve_unnamed<H: Host, I, O, E, S: Serves<I, O, E>>(
     requires { S.can_serve input.old output.old }
     ensures served { IsServedUnnamed (known host.now)
         (S.comes server.old server.new input.old input.new output.old output.new
-        errors.old errors.new) path.now result }
+        errors.old errors.new) path.now
+        (AreUntouched input.old input.new output.old output.new errors.old errors.new
+        × (server.new ≡ server.old)) result }
     ensures noted { MayNote S.notes errors.old errors.new }
 {
     let conn = unmarked_at(host.databases, path)?;
@@ -99,7 +103,9 @@ fn serve_without<H: Host, I, O, E, S: Serves<I, O, E>>(
     requires { S.can_serve input.old output.old }
     ensures served { IsServedWithout (known host.now)
         (S.comes server.old server.new input.old input.new output.old output.new
-        errors.old errors.new) path.now result }
+        errors.old errors.new) path.now
+        (AreUntouched input.old input.new output.old output.new errors.old errors.new
+        × (server.new ≡ server.old)) result }
     ensures noted { MayNote S.notes errors.old errors.new }
 {
     part(host, path)?;
@@ -121,7 +127,9 @@ fn serve_kept<H: Host, I, O, E, S: Serves<I, O, E>>(
     requires { S.can_serve input.old output.old }
     ensures served { IsServedKept (known host.now)
         (S.comes server.old server.new input.old input.new output.old output.new
-        errors.old errors.new) path.now journal.now result }
+        errors.old errors.new) path.now
+        (AreUntouched input.old input.new output.old output.new errors.old errors.new
+        × (server.new ≡ server.old)) journal.now result }
     ensures noted { MayNote S.notes errors.old errors.new }
 {
     let mut kept = kept_office_at(host.databases, host.journals, alloc, path, journal)?;
@@ -132,7 +140,7 @@ fn serve_kept<H: Host, I, O, E, S: Serves<I, O, E>>(
 
 /// Serves the office at a path, with its journal at another where the words name one, and closes it,
 /// also where that failed. Where closing fails too, the first fault is told. An office that has a
-/// journal goes on without only where that is said.
+/// journal goes on without only where that is said. Where none is served, nothing is read or written.
 pub(crate) fn serve_named<H: Host, I, O, E, S: Serves<I, O, E>>(
     host: &Outside<'_, H>,
     alloc: Global,
@@ -146,7 +154,9 @@ pub(crate) fn serve_named<H: Host, I, O, E, S: Serves<I, O, E>>(
     requires { S.can_serve input.old output.old }
     ensures served { IsServedNamed (known host.now)
         (S.comes server.old server.new input.old input.new output.old output.new
-        errors.old errors.new) path.now journal.entry result }
+        errors.old errors.new) path.now
+        (AreUntouched input.old input.new output.old output.new errors.old errors.new
+        × (server.new ≡ server.old)) journal.entry result }
     ensures noted { MayNote S.notes errors.old errors.new }
 {
     match journal {

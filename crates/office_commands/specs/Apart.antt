@@ -5,6 +5,7 @@ use Rattle.command_line.specs.declared.command.Command.{Command}
 use Rattle.streams.specs.declared.counted.Counted.{Counted}
 use Rattle.command_host.specs.Known.{Known}
 use Rattle.command_host.specs.declared.fault.CommandFault.{CommandFault}
+use Rattle.changing_commands.specs.Untouched.{AreUntouched}
 use Rattle.office_commands.specs.Commands.{HasRun, HasRunWords}
 use Rattle.office_commands.specs.Failing.{HasFailed}
 use Rattle.office_commands.specs.Notes.{goes_without, without_line, HasNotedAll, HasNotedAllWell}
@@ -30,10 +31,12 @@ module _ {S D F L N O : Type 0} (k : Known S D F L N) (contents : O → Option (
         WasApart k.compares asked (IsWarned asked
         (λ warned. HasRun k contents said_of warned noted asked came left output wrote status))
 
-    -- a command failed; or its journal and its database weren't apart, and it is refused for that
+    -- a command failed; or its journal and its database weren't apart, and it is refused for that, with
+    -- nothing read, written or noted
     abbrev pub HasFailedApart : Command → (noted : Counted E) → CommandFault → Type 0
     HasFailedApart asked noted why =
-        FailsApart k.compares asked (λ why. IsWarned asked
+        FailsApart k.compares asked (AreUntouched came left output wrote errors noted)
+        (λ why. IsWarned asked
         (λ warned. HasFailed k contents said_of warned noted asked came left output wrote why)) why
 
     -- words were carried out, with what was said on standard error

@@ -53,6 +53,8 @@ module _ (Compares : (journal database : List ℕ) → Result Bool AllocError �
     pub apart : IsApart asked
     pub done : Done
 
-  -- a command whose files are one is refused for that; or it fails so
-  abbrev pub FailsApart : Command → (Fails : CommandFault → Type 0) → CommandFault → Type 0
-  FailsApart asked Fails why = IsUnapart asked why ⊎ (IsApart asked × Fails why)
+  -- a command whose files are one is refused for that, and this is so then; or it fails so
+  abbrev pub FailsApart : Command → (Unused : Type 0) → (Fails : CommandFault → Type 0)
+      → CommandFault → Type 0
+  FailsApart asked Unused Fails why =
+      (IsUnapart asked why × Unused) ⊎ (IsApart asked × Fails why)

@@ -26,8 +26,8 @@ returns g c =
     inr (
       c.in_ok-conn.mark,
       c.in_ok-conn.ensures.opened.1,
-      subst (λ (n : ℕ). IsServedWith k.store k.log finds k.databases path n (λ old new. new ≡ old) (λ why old new. ⊥) c.close_kept.result) c.least_lines.ensures
+      inr (subst (λ (n : ℕ). IsServedWith k.store k.log finds k.databases path n (λ old new. new ≡ old) (λ why old new. ⊥) c.close_kept.result) c.least_lines.ensures
           (was_only_kept k.store k.log finds k.databases path c.least_lines.result (λ old new. new ≡ old) (λ why old new. ⊥) c.in_ok-kept.kept
           (kept_there k.store k.log finds k.databases path c.least_lines.result c.in_ok-conn.conn c.in_ok-conn.ensures.opened.0 {E = Unit {0}} (Ok c.in_ok-kept.kept) c.in_ok-kept.ensures.opened)
-          c.close_kept.result refl c.close_kept.ensures.closed c.close_kept.ensures.ended c.close_kept.ensures.fault),
+          c.close_kept.result refl c.close_kept.ensures.closed c.close_kept.ensures.ended c.close_kept.ensures.fault)),
     )

@@ -1,14 +1,14 @@
-use Rattle.std.proofs.Common.{rules, ◌≡◌, Ok, Err, inr}
+use Rattle.std.proofs.Common.{rules, ◌≡◌, Ok, Err, inl, inr, refl}
 use Rattle.command_host.specs.Outside.{known}
 use Rattle.changing_commands.specs.Journals.{journaled_over}
 use Rattle.changing_commands.proofs.KeptFacts.{was_kept}
-use Rattle.changing_commands.proofs.ServedFacts.{all_served, served_until, unkept_first}
+use Rattle.changing_commands.proofs.ServedFacts.{all_served, served_until}
 use Rattle.changing_commands.proofs.served.serve_kept.Goals as goal
 
 pub returns-in_err-kept-clause-served : goal.returns-in_err-kept-clause-served
 returns-in_err-kept-clause-served g c =
     let told : c.from_residual.result ≡ Err c.in_err-kept.field-0.0 = search rules in
-    rw told (unkept_first c.in_err-kept.ensures.fault)
+    rw told (inl (c.in_err-kept.ensures.fault, ((refl, refl, refl), refl)))
 
 pub returns-clause-served : goal.returns-clause-served
 returns-clause-served g c =

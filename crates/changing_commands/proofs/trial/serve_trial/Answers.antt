@@ -3,7 +3,7 @@ use Rattle.changing_commands.proofs.TrialFacts.{tried}
 use Rattle.changing_commands.proofs.trial.serve_trial.Goals as goal
 
 pub returns-in-Err-clause-tried : goal.returns-in-Err-clause-tried
-returns-in-Err-clause-tried g c = rw c.unbegun.ensures (inl (c.in-Err.ensures.fault, refl))
+returns-in-Err-clause-tried g c = rw c.unbegun.ensures (inl (c.in-Err.ensures.fault, ((refl, refl, refl), refl)))
 
 pub returns-in-Ok-clause-tried : goal.returns-in-Ok-clause-tried
 returns-in-Ok-clause-tried g c =
