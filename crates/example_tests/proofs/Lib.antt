@@ -16,3 +16,4 @@ pub mod Calls
 pub mod Endings
 pub mod Begun
 pub mod Said
+pub mod Limits

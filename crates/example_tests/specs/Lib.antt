@@ -1,3 +1,4 @@
 pub mod Examples
 pub mod JournalExamples
 pub mod EdgeExamples
+pub mod Limits

@@ -12,6 +12,7 @@ pub mod foundings;
 pub mod histories;
 pub mod journals;
 pub mod leavings;
+pub mod limits;
 pub mod networks;
 pub mod openings;
 pub mod reads;
