@@ -17,3 +17,4 @@ pub mod Endings
 pub mod Begun
 pub mod Said
 pub mod Limits
+pub mod Duties

@@ -6,6 +6,7 @@ pub mod buildings;
 pub mod calls;
 pub mod causes;
 pub mod documents;
+pub mod duties;
 pub mod endings;
 pub mod filters;
 pub mod foundings;
