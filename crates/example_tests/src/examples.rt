@@ -12,6 +12,7 @@ pub mod filters;
 pub mod foundings;
 pub mod histories;
 pub mod journals;
+pub mod laws;
 pub mod leavings;
 pub mod limits;
 pub mod networks;
