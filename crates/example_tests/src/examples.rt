@@ -8,6 +8,7 @@ pub mod causes;
 pub mod documents;
 pub mod duties;
 pub mod endings;
+pub mod exchanges;
 pub mod filters;
 pub mod foundings;
 pub mod histories;
