@@ -18,3 +18,4 @@ pub mod Begun
 pub mod Said
 pub mod Limits
 pub mod Duties
+pub mod Servings

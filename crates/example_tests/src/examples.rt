@@ -22,6 +22,7 @@ pub mod reads;
 pub mod replays;
 pub mod revisions;
 pub mod sayings;
+pub mod servings;
 pub mod stores;
 pub mod strikes;
 pub mod verifications;
