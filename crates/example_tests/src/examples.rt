@@ -16,6 +16,7 @@ pub mod journals;
 pub mod laws;
 pub mod leavings;
 pub mod limits;
+pub mod migrations;
 pub mod networks;
 pub mod openings;
 pub mod reads;
