@@ -5,7 +5,7 @@ use crate::lines::texts::{
     SUBMITTED, first_lines,
 };
 use crate::lines::turns::{WHOLE, take_turn, take_turn_anew};
-use desk_lines::{DeskFault, MAX_READS};
+use desk_lines::DeskFault;
 use no_memory::NoMemory;
 use std::alloc::Global;
 use std::process::Abort;
@@ -86,7 +86,7 @@ fn a_reader_is_not_called_without_end(rt: HostRuntime) -> Result<(), Fail> {
     let (end, written) = serve(rt.alloc(), &mut office, source, Vec::new(rt.alloc()));
     assert_eq!(rt;
         (end.result, end.reads, end.failed_reads, written.len()),
-        (Err(DeskFault::TooManyReads { line: 1 }), MAX_READS, 0, 0)
+        (Err(DeskFault::TooManyReads { line: 1 }), 4_194_304, 0, 0)
     );
     Ok(())
 }
